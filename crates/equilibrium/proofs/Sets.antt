@@ -1,0 +1,159 @@
+-- Finite sets as lists read by membership: laws, decisions, and the search through all parts of a set.
+use Prim.Native.Nat.{ℕ}
+use mathlib.Core.Path.{_≡_, refl, sym, subst}
+use mathlib.Core.List.{List, [], _∷_, _++_, map, List·Memᴰ, List·Memᴰ·head, List·Memᴰ·tail, List·Memᴰ·cases-cons, List·Memᴰ·append-cases, Memᴰ·append-left, Memᴰ·append-right, List·Memᴰ·not-nil}
+use mathlib.Core.Logic.{_⊎_, inl, inr, ⊎-elim, _↔_}
+use Rattle.equilibrium.specs.Meaning.{_∈_, _⊆_, _≈_}
+
+-- where the decision says yes
+abbrev pub IsYes : {X : Type 0} → Dec X → Type 0
+IsYes (yes x) = Unit {0}
+IsYes (no n) = ⊥
+
+-- what a decision that computes to yes has shown
+pub from-yes : {X : Type 0} (d : Dec X) → IsYes d → X
+from-yes (yes x) t = x
+from-yes (no n) t = absurd t
+
+-- where the decision says no
+abbrev pub IsNo : {X : Type 0} → Dec X → Type 0
+IsNo (yes x) = ⊥
+IsNo (no n) = Unit {0}
+
+pub from-no : {X : Type 0} (d : Dec X) → IsNo d → X → ⊥
+from-no (yes x) t = absurd t
+from-no (no n) t = n
+
+unfoldable pub dec-not : {X : Type 0} → Dec X → Dec (X → ⊥)
+dec-not (yes x) = no (λ f. f x)
+dec-not (no n) = yes n
+
+unfoldable pub dec-and : {X Y : Type 0} → Dec X → Dec Y → Dec (X × Y)
+dec-and (yes x) (yes y) = yes (x, y)
+dec-and (yes x) (no n) = no (λ p. n (p .1))
+dec-and (no n) d = no (λ p. n (p .0))
+
+unfoldable pub dec-or : {X Y : Type 0} → Dec X → Dec Y → Dec (X ⊎ Y)
+dec-or (yes x) d = yes (inl x)
+dec-or (no n) (yes y) = yes (inr y)
+dec-or (no n) (no m) = no (⊎-elim n m)
+
+unfoldable pub dec-implies : {X Y : Type 0} → Dec X → Dec Y → Dec (X → Y)
+dec-implies d (yes y) = yes (λ x. y)
+dec-implies (yes x) (no n) = no (λ f. n (f x))
+dec-implies (no m) (no n) = yes (λ x. absurd (m x))
+
+unfoldable pub dec-iff : {X Y : Type 0} → Dec X → Dec Y → Dec (X ↔ Y)
+unfolding dec-and dec-implies
+dec-iff d e = dec-and (dec-implies d e) (dec-implies e d)
+
+-- a decision carried along an equivalence
+unfoldable pub dec-map : {X Y : Type 0} → (X → Y) → (Y → X) → Dec X → Dec Y
+dec-map f g (yes x) = yes (f x)
+dec-map f g (no n) = no (λ y. n (g y))
+
+module _ {X : Type 0} where
+  pub ≈-refl : {xs : List X} → xs ≈ xs
+  ≈-refl = (λ x m. m, λ x m. m)
+
+  pub ≈-sym : {xs ys : List X} → xs ≈ ys → ys ≈ xs
+  ≈-sym e = (e .1, e .0)
+
+  pub ≈-trans : {xs ys zs : List X} → xs ≈ ys → ys ≈ zs → xs ≈ zs
+  ≈-trans e f = (λ x m. f .0 x (e .0 x m), λ x m. e .1 x (f .1 x m))
+
+  -- a property of every member: of the first, and of every member of the rest
+  unfoldable pub dec-all : {P : X → Type 0} → ((x : X) → Dec (P x)) → (xs : List X) → Dec ((x : X) → x ∈ xs → P x)
+  dec-all d [] = yes (λ x m. absurd (List·Memᴰ·not-nil m))
+  dec-all {P} d (x ∷ xs) = step (d x) (dec-all d xs)
+    where
+      step : Dec (P x) → Dec ((y : X) → y ∈ xs → P y) → Dec ((y : X) → y ∈ x ∷ xs → P y)
+      step (yes h) (yes t) = yes (λ y m. ⊎-elim (λ (e : y ≡ x). subst P (sym e) h) (t y) (List·Memᴰ·cases-cons m))
+      step (yes h) (no n) = no (λ f. n (λ y m. f y (List·Memᴰ·tail m)))
+      step (no n) t = no (λ f. n (f x (List·Memᴰ·head refl)))
+
+  -- a property of some member
+  unfoldable pub dec-some : {P : X → Type 0} → ((x : X) → Dec (P x)) → (xs : List X) → Dec ((x : X) × (x ∈ xs) × P x)
+  dec-some d [] = no (λ s. List·Memᴰ·not-nil (s .1))
+  dec-some {P} d (x ∷ xs) = step (d x) (dec-some d xs)
+    where
+      step : Dec (P x) → Dec ((y : X) × (y ∈ xs) × P y) → Dec ((y : X) × (y ∈ x ∷ xs) × P y)
+      step (yes h) t = yes (x, List·Memᴰ·head refl, h)
+      step (no n) (yes s) = yes (s .0, List·Memᴰ·tail (s .1), s .2)
+      step (no n) (no m) = no (λ s. ⊎-elim (λ (e : s .0 ≡ x). n (subst P e (s .2))) (λ k. m (s .0, k, s .2)) (List·Memᴰ·cases-cons (s .1)))
+
+  abbrev put-if : {P : Type 0} → Dec P → X → List X → List X
+  put-if (yes h) x xs = x ∷ xs
+  put-if (no n) x xs = xs
+
+  -- the members that have a property, in their order
+  unfoldable pub those : {P : X → Type 0} → ((x : X) → Dec (P x)) → List X → List X
+  those d [] = []
+  those d (x ∷ xs) = put-if (d x) x (those d xs)
+
+  -- exactly the members that have it
+  pub in-those : {P : X → Type 0} (d : (x : X) → Dec (P x)) (xs : List X) (y : X) → (y ∈ those d xs) ↔ ((y ∈ xs) × P y)
+  unfolding those
+  in-those d [] y = (λ m. absurd (List·Memᴰ·not-nil m), λ h. absurd (List·Memᴰ·not-nil (h .0)))
+  in-those {P} d (x ∷ xs) y = step (d x) (in-those d xs y)
+    where
+      step : (e : Dec (P x)) → (y ∈ those d xs) ↔ ((y ∈ xs) × P y) → (y ∈ put-if e x (those d xs)) ↔ ((y ∈ x ∷ xs) × P y)
+      step (yes h) ih = (λ m. ⊎-elim (λ (e : y ≡ x). (List·Memᴰ·head e, subst P (sym e) h)) (λ k. (List·Memᴰ·tail (ih .0 k .0), ih .0 k .1)) (List·Memᴰ·cases-cons m), λ g. ⊎-elim (λ e. List·Memᴰ·head e) (λ k. List·Memᴰ·tail (ih .1 (k, g .1))) (List·Memᴰ·cases-cons (g .0)))
+      step (no n) ih = (λ m. (List·Memᴰ·tail (ih .0 m .0), ih .0 m .1), λ g. ⊎-elim (λ (e : y ≡ x). absurd (n (subst P e (g .1)))) (λ k. ih .1 (k, g .1)) (List·Memᴰ·cases-cons (g .0)))
+
+-- sets of things that can be told apart
+module _ {X : Type 0} (_≟_ : Discrete X) where
+  unfoldable pub dec-in : (x : X) (xs : List X) → Dec (x ∈ xs)
+  dec-in x [] = no (λ m. List·Memᴰ·not-nil m)
+  dec-in x (y ∷ ys) = step (_≟_ x y) (dec-in x ys)
+    where
+      step : Dec (x ≡ y) → Dec (x ∈ ys) → Dec (x ∈ y ∷ ys)
+      step (yes e) d = yes (List·Memᴰ·head e)
+      step (no n) (yes m) = yes (List·Memᴰ·tail m)
+      step (no n) (no k) = no (λ m. ⊎-elim n k (List·Memᴰ·cases-cons m))
+
+  unfoldable pub dec-part : (xs ys : List X) → Dec (xs ⊆ ys)
+  unfolding dec-in dec-all
+  dec-part xs ys = dec-all (λ x. dec-in x ys) xs
+
+  unfoldable pub dec-same : (xs ys : List X) → Dec (xs ≈ ys)
+  unfolding dec-part dec-and
+  dec-same xs ys = dec-and (dec-part xs ys) (dec-part ys xs)
+
+  -- a set with one of its members taken out and put in front
+  pub split-off : (x : X) (xs : List X) → x ∈ xs → xs ≈ (x ∷ those (λ y. dec-not (_≟_ y x)) xs)
+  split-off x xs m = (λ y k. there y k (_≟_ y x), λ y k. ⊎-elim (λ (e : y ≡ x). subst (λ (z : X). z ∈ xs) (sym e) m) (λ j. in-those _ xs y .0 j .0) (List·Memᴰ·cases-cons k))
+    where
+      there : (y : X) → y ∈ xs → Dec (y ≡ x) → y ∈ x ∷ those (λ z. dec-not (_≟_ z x)) xs
+      there y k (yes e) = List·Memᴰ·head e
+      there y k (no n) = List·Memᴰ·tail (in-those _ xs y .1 (k, n))
+
+  -- Is there a part of U with a property of sets? With each member in turn left out and put in, every part is tried.
+  unfoldable pub search-parts : (U : List X) (P : List X → Type 0) → ((xs : List X) → Dec (P xs)) → ((xs ys : List X) → xs ≈ ys → P xs → P ys) → Dec ((xs : List X) × (xs ⊆ U) × P xs)
+  search-parts [] P d same = step (d [])
+    where
+      step : Dec (P []) → Dec ((xs : List X) × (xs ⊆ []) × P xs)
+      step (yes h) = yes ([], (λ x m. m), h)
+      step (no n) = no (λ s. n (same (s .0) [] (s .1, λ x m. absurd (List·Memᴰ·not-nil m)) (s .2)))
+  search-parts (u ∷ U) P d same = step (search-parts U P d same) (search-parts U (λ xs. P (u ∷ xs)) (λ xs. d (u ∷ xs)) (λ xs ys e. same (u ∷ xs) (u ∷ ys) (put e)))
+    where
+      put : {xs ys : List X} → xs ≈ ys → (u ∷ xs) ≈ (u ∷ ys)
+      put e = (λ y m. ⊎-elim (λ k. List·Memᴰ·head k) (λ k. List·Memᴰ·tail (e .0 y k)) (List·Memᴰ·cases-cons m), λ y m. ⊎-elim (λ k. List·Memᴰ·head k) (λ k. List·Memᴰ·tail (e .1 y k)) (List·Memᴰ·cases-cons m))
+
+      narrow : (xs : List X) → xs ⊆ u ∷ U → (u ∈ xs → ⊥) → xs ⊆ U
+      narrow xs s n y m = ⊎-elim (λ (e : y ≡ u). absurd (n (subst (λ (z : X). z ∈ xs) e m))) (λ k. k) (List·Memᴰ·cases-cons (s y m))
+
+      step : Dec ((xs : List X) × (xs ⊆ U) × P xs) → Dec ((xs : List X) × (xs ⊆ U) × P (u ∷ xs)) → Dec ((xs : List X) × (xs ⊆ u ∷ U) × P xs)
+      step (yes s) without = yes (s .0, (λ y m. List·Memᴰ·tail (s .1 y m)), s .2)
+      step (no n) (yes s) = yes (u ∷ s .0, (λ y m. ⊎-elim (λ e. List·Memᴰ·head e) (λ k. List·Memᴰ·tail (s .1 y k)) (List·Memᴰ·cases-cons m)), s .2)
+      step (no n) (no k) = no (λ s. cases (s .0) (s .1) (s .2) (dec-in u (s .0)))
+        where
+          cases : (xs : List X) → xs ⊆ u ∷ U → P xs → Dec (u ∈ xs) → ⊥
+          cases xs s h (no j) = n (xs, narrow xs s j, h)
+          cases xs s h (yes j) = k (rest, (λ y m. narrow-rest y (in-those _ xs y .0 m)), same xs (u ∷ rest) (split-off u xs j) h)
+            where
+              rest : List X
+              rest = those (λ y. dec-not (_≟_ y u)) xs
+
+              narrow-rest : (y : X) → (y ∈ xs) × (y ≡ u → ⊥) → y ∈ U
+              narrow-rest y m = ⊎-elim (λ e. absurd (m .1 e)) (λ t. t) (List·Memᴰ·cases-cons (s y (m .0)))

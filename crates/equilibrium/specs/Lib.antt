@@ -1,0 +1,3 @@
+pub mod Formula
+pub mod Meaning
+pub mod Examples
