@@ -1,0 +1,4 @@
+pub mod Sequent
+pub mod Rules
+pub mod Instance
+pub mod Derivation
