@@ -1,0 +1,55 @@
+-- The law of common sets: when some sides are one set, each with something of its own added. It decides L and R of a
+-- rule without a search: the intersection of the sides will do if any set does.
+use mathlib.Core.Path.{_≡_, refl, sym}
+use mathlib.Core.List.{List, [], _∷_, _++_, List·Memᴰ·not-nil, List·Memᴰ·head, List·Memᴰ·tail, List·Memᴰ·cases-cons, List·Memᴰ·append-cases, Memᴰ·append-left, Memᴰ·append-right}
+use mathlib.Core.Logic.{⊎-elim, _↔_}
+use Rattle.equilibrium.specs.Meaning.{_∈_, _⊆_, _≈_}
+use Rattle.equilibrium.proofs.Sets.{dec-not, dec-and, dec-implies, dec-map, dec-in, dec-part, dec-all, those, in-those}
+
+-- a side, and what is to be added to the common set to give it
+pub record Side (X : Type 0) : Type 0 where
+  pub whole : List X
+  pub added : List X
+
+module _ {X : Type 0} where
+  -- L with what is added is the side
+  abbrev pub Completes : List X → Side X → Type 0
+  Completes L s = s .whole ≈ (s .added ++ L)
+
+  -- L does so for each side
+  abbrev pub Common : List (Side X) → List X → Type 0
+  Common sides L = (s : Side X) → s ∈ sides → Completes L s
+
+  -- what the one side has besides the added is in the other
+  abbrev pub Passes : Side X → Side X → Type 0
+  Passes s t = (x : X) → x ∈ s .whole → (x ∈ s .added → ⊥) → x ∈ t .whole
+
+  -- each side holds what is added, and what a side has besides is in all
+  abbrev pub Shared : List (Side X) → Type 0
+  Shared sides = (s : Side X) → s ∈ sides → (s .added ⊆ s .whole) × ((t : Side X) → t ∈ sides → Passes s t)
+
+module _ {X : Type 0} (_≟_ : Discrete X) where
+  intersection : List (Side X) → List X
+  intersection [] = []
+  intersection (s ∷ sides) = those (λ x. dec-all (λ t. dec-in _≟_ x (t .whole)) (s ∷ sides)) (s .whole)
+
+  -- of some sides the intersection holds exactly what all of them hold
+  in-intersection : (sides : List (Side X)) {s : Side X} → s ∈ sides → (x : X) → (x ∈ intersection sides) ↔ ((t : Side X) → t ∈ sides → x ∈ t .whole)
+  unfolding intersection
+  in-intersection [] m x = absurd (List·Memᴰ·not-nil m)
+  in-intersection (s ∷ sides) m x = (λ k. in-those _ (s .whole) x .0 k .1, λ f. in-those _ (s .whole) x .1 (f s (List·Memᴰ·head refl), f))
+
+  -- a common set exists exactly if each side holds what is added and all sides hold what one has besides
+  pub common-iff : (sides : List (Side X)) → ((L : List X) × Common sides L) ↔ Shared sides
+  common-iff sides = (λ c s m. (λ x a. c .1 s m .1 x (Memᴰ·append-left (c .0) a), λ t k x w n. c .1 t k .1 x (Memᴰ·append-right (t .added) (⊎-elim (λ a. absurd (n a)) (λ l. l) (List·Memᴰ·append-cases (s .added) (c .1 s m .0 x w))))), λ f. (intersection sides, λ s m. (λ x w. place f m x w (dec-in _≟_ x (s .added)), λ x k. ⊎-elim (f s m .0 x) (λ i. in-intersection sides m x .0 i s m) (List·Memᴰ·append-cases (s .added) k))))
+    where
+      place : Shared sides → {s : Side X} → s ∈ sides → (x : X) → x ∈ s .whole → Dec (x ∈ s .added) → x ∈ s .added ++ intersection sides
+      place f m x w (yes a) = Memᴰ·append-left (intersection sides) a
+      place f {s} m x w (no n) = Memᴰ·append-right (s .added) (in-intersection sides m x .1 (λ t k. f s m .1 t k x w n))
+
+  unfoldable pub shared? : (sides : List (Side X)) → Dec (Shared sides)
+  unfolding dec-all dec-and dec-part dec-implies dec-not dec-in
+  shared? sides = dec-all (λ s. dec-and (dec-part _≟_ (s .added) (s .whole)) (dec-all (λ t. passes? s t) sides)) sides
+    where
+      passes? : (s t : Side X) → Dec (Passes s t)
+      passes? s t = dec-all (λ x. dec-implies (dec-not (dec-in _≟_ x (s .added))) (dec-in _≟_ x (t .whole))) (s .whole)

@@ -1,0 +1,44 @@
+-- Strictly rising lists of atoms, the form in which `unst` lists V. Every finite set of atoms can be listed so.
+use Prim.Native.Nat.{ℕ, _<_}
+use native.Mathlib.Omega.{arith}
+use native.Mathlib.Decide.{ℕ-discrete, decLt}
+use mathlib.Core.Path.{_≡_, refl}
+use mathlib.Core.List.{List, [], _∷_, List·Memᴰ·head, List·Memᴰ·tail, List·Memᴰ·cases-cons}
+use mathlib.Core.Logic.{⊎-elim, dite}
+use Rattle.equilibrium.specs.Meaning.{_∈_, _≈_}
+use Rattle.equilibrium.proofs.Sets.{≈-refl, ≈-sym, ≈-trans}
+use Rattle.elk.specs.Instance.{Rising}
+use Rattle.elk.proofs.Sides.{cons-same, cons-again, cons-swap}
+
+pub rising-tail : (p : ℕ) (ps : List ℕ) → Rising (p ∷ ps) → Rising ps
+rising-tail p [] r = tt
+rising-tail p (q ∷ qs) r = r .1
+
+-- the first is below all others
+rising-least : (p : ℕ) (ps : List ℕ) → Rising (p ∷ ps) → {q : ℕ} → q ∈ ps → p < q
+rising-least p (s ∷ ss) r (List·Memᴰ·head e) = rw e (r .0)
+rising-least p (s ∷ ss) r (List·Memᴰ·tail m) = let h = rising-least s ss (r .1) m in omega (arith, r .0)
+
+-- the first is not among the others
+pub rising-apart : (p : ℕ) (ps : List ℕ) → Rising (p ∷ ps) → {q : ℕ} → q ≡ p → q ∈ ps → ⊥
+rising-apart p ps r e m = let h = rising-least p ps r m in omega arith
+
+rising-cons : (p : ℕ) (ps : List ℕ) → ((q : ℕ) → q ∈ ps → p < q) → Rising ps → Rising (p ∷ ps)
+rising-cons p [] h r = tt
+rising-cons p (q ∷ qs) h r = (h q (List·Memᴰ·head refl), r)
+
+-- a rising list with the same members
+abbrev pub InOrder : List ℕ → Type 0
+InOrder ps = (qs : List ℕ) × Rising qs × (qs ≈ ps)
+
+-- one more atom, at its place
+put : (p : ℕ) (qs : List ℕ) → Rising qs → InOrder (p ∷ qs)
+put p [] r = (p ∷ [], tt, ≈-refl)
+put p (q ∷ qs) r = dite (decLt p q) (λ below. (p ∷ q ∷ qs, (below, r), ≈-refl)) (λ n. dite (ℕ-discrete p q) (λ e. (q ∷ qs, r, ≈-sym (cons-again (List·Memᴰ·head e)))) (λ k. later n k (put p qs (rising-tail q qs r))))
+  where
+    later : (p < q → ⊥) → (p ≡ q → ⊥) → InOrder (p ∷ qs) → InOrder (p ∷ q ∷ qs)
+    later n k o = (q ∷ o .0, rising-cons q (o .0) (λ s m. ⊎-elim (λ (e : s ≡ p). omega arith) (rising-least q qs r) (List·Memᴰ·cases-cons (o .2 .0 s m))) (o .1), ≈-trans (cons-same (o .2)) cons-swap)
+
+pub in-order : (ps : List ℕ) → InOrder ps
+in-order [] = ([], tt, ≈-refl)
+in-order (p ∷ ps) = let o = in-order ps in let i = put p (o .0) (o .1) in (i .0, i .1, ≈-trans (i .2) (cons-same (o .2)))

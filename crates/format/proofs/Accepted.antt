@@ -1,0 +1,128 @@
+-- What acceptance shows: the rows of an accepted text, decoded, are a derivation that ends in its claim; so its claim
+-- does not fail.
+use Prim.Native.Nat.{ℕ, _+_}
+use native.Mathlib.Omega.{arith}
+use mathlib.Core.Path.{_≡_, refl, sym, ap, subst, subst₃, _∙_}
+use mathlib.Core.Bool.{Bool, true, false, cond, _&&_, false≢true}
+use mathlib.Core.List.{List, [], _∷_, _++_}
+use mathlib.Core.Option.{Option, none, some}
+use lib.Dec.{ltb}
+use lib.ListN.{length}
+use Rattle.equilibrium.specs.Formula.{Formula}
+use Rattle.equilibrium.specs.Meaning.{_≈_, Entails, Fails}
+use Rattle.equilibrium.proofs.Sets.{≈-refl}
+use Rattle.equilibrium.proofs.Models.{entails-not-fails}
+use Rattle.elk.specs.Sequent.{Kind, elk, refutation}
+use Rattle.elk.specs.Rules.{entry, kindOf}
+use Rattle.elk.specs.Derivation.{Derivation, EndsIn}
+use Rattle.elk.proofs.Soundness.{ends-in-sound}
+use Rattle.format.specs.Text.{Bytes, linesOf, sameList}
+use Rattle.format.specs.File.{Node, Row, Claim, File, noFile, sequentOf, decoded}
+use Rattle.format.specs.Tables.{Lent, tooShort, mostBytes}
+use Rattle.format.specs.Tests.{sameKind, lastIs}
+use Rattle.format.specs.Judged.{Outcome, next, refused, top, beginning, Answer, accepted, turnedDown, orNoClaim, finish, judged, nodesIn, ClaimFails}
+use Rattle.format.proofs.Booleans.{and-true, same-list}
+use Rattle.format.proofs.Beginnings.{Good, run-good, good-start, derived, derived-snoc}
+
+-- an accepted text: the file that its lines come to, and its claim
+pub record Accepted (text : Bytes) (line : ℕ) : Type 0 where
+  pub file : File
+  pub is-beginning : beginning text ≡ next file
+  pub claim : Claim
+  pub is-claim : file .claim ≡ some claim
+  pub is-line : claim .line ≡ line
+
+turned-down : {n k l : ℕ} → turnedDown n k ≡ accepted l → ⊥
+turned-down e = let z : _≡_ {A = ℕ} 0 1 = cc in omega arith
+
+pub accepted-file : (t : Lent) (text : Bytes) (line : ℕ) → judged t text ≡ accepted line → Accepted text line
+unfolding judged
+accepted-file t text line e = short (tooShort t) e
+  where
+    claim-of : (f : File) (o : Option Claim) (n : ℕ) → f .claim ≡ o → beginning text ≡ next f → orNoClaim o n ≡ accepted line → Accepted text line
+    claim-of f none n q b k = absurd (turned-down k)
+    claim-of f (some c) n q b k = record { file = f; is-beginning = b; claim = c; is-claim = q; is-line = cc }
+
+    finished : (o : Outcome File) (rest : Bytes) (n : ℕ) → beginning text ≡ o → finish o rest n ≡ accepted line → Accepted text line
+    finished (refused m k) rest n b q = absurd (turned-down q)
+    finished (next f) [] n b q = claim-of f (f .claim) n refl b q
+    finished (next f) (x ∷ xs) n b q = absurd (turned-down q)
+
+    long : (b : Bool) → cond b (turnedDown 2 0) (finish (beginning text) (linesOf text .rest) (length (linesOf text .complete) + 1)) ≡ accepted line → Accepted text line
+    long true k = absurd (turned-down k)
+    long false k = finished (beginning text) (linesOf text .rest) _ refl k
+
+    short : (b : Bool) → cond b (turnedDown 1 0) (cond (ltb mostBytes (length text)) (turnedDown 2 0) (finish (beginning text) (linesOf text .rest) (length (linesOf text .complete) + 1))) ≡ accepted line → Accepted text line
+    short true k = absurd (turned-down k)
+    short false k = long (ltb mostBytes (length text)) k
+
+pub accepted-good : {text : Bytes} {line : ℕ} (a : Accepted text line) → Good (linesOf text .complete) (a .file)
+unfolding beginning
+accepted-good {text} a = run-good top (linesOf text .complete) good-start (a .is-beginning)
+
+is-elk : (k : Kind) → sameKind k elk ≡ true → k ≡ elk
+is-elk elk e = refl
+is-elk refutation e = absurd (false≢true e)
+
+pub record LastRow (rows : List Row) (left right : List ℕ) : Type 0 where
+  pub before : List Row
+  pub last : Row
+  pub split : rows ≡ before ++ last ∷ []
+  pub kind : kindOf (entry (last .rule)) ≡ elk
+  pub left-side : last .left ≡ left
+  pub right-side : last .right ≡ right
+
+pub last-row : (rows : List Row) (left right : List ℕ) → lastIs rows left right ≡ true → LastRow rows left right
+last-row [] left right e = absurd (false≢true e)
+last-row (r ∷ []) left right e =
+    let rights = and-true (sameKind (kindOf (entry (r .rule))) elk && sameList (r .left) left) (sameList (r .right) right) e in
+    let lefts = and-true (sameKind (kindOf (entry (r .rule))) elk) (sameList (r .left) left) (rights .0) in
+    record { before = []; last = r; split = refl; kind = is-elk _ (lefts .0); left-side = same-list _ _ (lefts .1); right-side = same-list _ _ (rights .1) }
+last-row (r ∷ q ∷ qs) left right e =
+    let rest = last-row (q ∷ qs) left right e in
+    record { before = r ∷ rest .before; last = rest .last; split = ap (λ (rs : List Row). r ∷ rs) (rest .split); kind = rest .kind; left-side = rest .left-side; right-side = rest .right-side }
+
+-- the rows of an accepted text, decoded, are a derivation that ends in its claim
+pub accepted-derives : {text : Bytes} {line : ℕ} (a : Accepted text line) → EndsIn (decoded (a .file .body .nodes) (a .claim .left)) (decoded (a .file .body .nodes) (a .claim .right))
+accepted-derives {text} a =
+    record {
+      last = sequentOf nodes (l .last);
+      earlier = derived nodes (l .before);
+      derivation = subst Derivation (ap (derived nodes) (l .split) ∙ derived-snoc nodes (l .before) (l .last)) (g .derivation);
+      ends = record { kind = l .kind; left = decoded-same (l .left-side); right = decoded-same (l .right-side) };
+    }
+  where
+    nodes : List Node
+    nodes = a .file .body .nodes
+
+    decoded-same : {is js : List ℕ} → is ≡ js → decoded nodes is ≈ decoded nodes js
+    decoded-same {is} e = subst (λ (ks : List ℕ). decoded nodes is ≈ decoded nodes ks) e ≈-refl
+
+    g : Good (linesOf text .complete) (a .file)
+    g = accepted-good a
+
+    l : LastRow (a .file .body .rows) (a .claim .left) (a .claim .right)
+    l = last-row _ _ _ (g .claim-last (a .claim) (a .is-claim))
+
+-- whatever text is handed in and whoever wrote it: if it is accepted, its claim does not fail
+pub accepted-holds : (t : Lent) (text : Bytes) (line : ℕ) → judged t text ≡ accepted line → ClaimFails text → ⊥
+accepted-holds t text line e bad = entails-not-fails (ends-in-sound (accepted-derives a)) fails
+  where
+    a : Accepted text line
+    a = accepted-file t text line e
+
+    nodes : List Node
+    nodes = a .file .body .nodes
+
+    g : Good (linesOf text .complete) (a .file)
+    g = accepted-good a
+
+    -- the one claim of the text
+    own : (c : Claim) × (a .file .claim ≡ some c) × (c .left ≡ bad .left) × (c .right ≡ bad .right)
+    own = g .claims-read (bad .line) (bad .left) (bad .right) (bad .in-text) (bad .is-claim)
+
+    same-claim : own .0 ≡ a .claim
+    same-claim = let k : _≡_ {A = Option Claim} (some (own .0)) (some (a .claim)) = sym (own .1) ∙ a .is-claim in cc
+
+    fails : Fails (decoded nodes (a .claim .left)) (decoded nodes (a .claim .right))
+    fails = subst (λ (c : Claim). Fails (decoded nodes (c .left)) (decoded nodes (c .right))) same-claim (subst₃ (λ (ns : List Node) (l r : List ℕ). Fails (decoded ns l) (decoded ns r)) (g .nodes-read) (sym (own .2)) (sym (own .3)) (bad .fails))

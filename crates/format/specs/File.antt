@@ -1,0 +1,89 @@
+-- What an accepted beginning of a file holds, and the formulas that its numbers stand for.
+use Prim.Native.Nat.{ℕ}
+use mathlib.Core.List.{List, [], _∷_, _++_, map}
+use mathlib.Core.Option.{Option, none}
+use lib.ListN.{getD}
+use Rattle.equilibrium.specs.Formula.{Formula}
+use Rattle.elk.specs.Sequent.{Sequent}
+use Rattle.elk.specs.Rules.{Rule, entry, kindOf}
+use Rattle.format.specs.Text.{Bytes}
+
+-- one F line: a word with an atom number, or with formula numbers
+pub data Node : Type 0 where
+  bot : Node
+  atom not : ℕ → Node
+  and or imp : ℕ → ℕ → Node
+
+-- one N line: a row of the derivation, that is a sequent with the rule, principal formula and premises it follows by
+pub record Row : Type 0 where
+  pub rule : Rule
+  pub principal : Option ℕ
+  pub premises : List ℕ
+  pub left : List ℕ
+  pub right : List ℕ
+
+-- the name of an atom, and the byte of the text at which it starts
+pub record Name : Type 0 where
+  pub start : ℕ
+  pub name : Bytes
+
+-- the C line: its sequent, and the number of the line
+pub record Claim : Type 0 where
+  pub line : ℕ
+  pub left : List ℕ
+  pub right : List ℕ
+
+-- what rows are judged by: the count of atoms, the formulas and the earlier rows
+pub record Body : Type 0 where
+  pub atoms : ℕ
+  pub nodes : List Node
+  pub rows : List Row
+
+-- the kind of the last line: what may follow it
+pub data Stage : Type 0 where
+  in-atoms in-formulas in-rows claimed : Stage
+
+pub record File : Type 0 where
+  pub names : List Name
+  pub body : Body
+  pub stage : Stage
+  pub claim : Option Claim
+
+abbrev pub noBody : Body
+noBody = record { atoms = 0; nodes = []; rows = [] }
+
+abbrev pub noFile : File
+noFile = record { names = []; body = noBody; stage = in-atoms; claim = none }
+
+-- the formula of a number, where the formulas of 0, 1, 2, .. are listed
+abbrev pub formulaAt : List Formula → ℕ → Formula
+formulaAt earlier i = getD earlier i Formula.falsum
+
+-- the formula of a node over those of the earlier numbers
+abbrev pub formulaOf : List Formula → Node → Formula
+formulaOf earlier Node.bot = Formula.falsum
+formulaOf earlier (Node.atom k) = Formula.atom k
+formulaOf earlier (Node.not i) = Formula.neg (formulaAt earlier i)
+formulaOf earlier (Node.and i j) = Formula.conj (formulaAt earlier i) (formulaAt earlier j)
+formulaOf earlier (Node.or i j) = Formula.disj (formulaAt earlier i) (formulaAt earlier j)
+formulaOf earlier (Node.imp i j) = Formula.imp (formulaAt earlier i) (formulaAt earlier j)
+
+abbrev pub formulasAfter : List Formula → List Node → List Formula
+formulasAfter earlier [] = earlier
+formulasAfter earlier (n ∷ ns) = formulasAfter (earlier ++ formulaOf earlier n ∷ []) ns
+
+-- the formulas of 0, 1, 2, ..
+unfoldable pub formulas : List Node → List Formula
+formulas nodes = formulasAfter [] nodes
+
+-- the formula of a number
+abbrev pub decodedAt : List Node → ℕ → Formula
+decodedAt nodes i = formulaAt (formulas nodes) i
+
+-- the formulas of a list of numbers
+abbrev pub decoded : List Node → List ℕ → List Formula
+decoded nodes is = map (decodedAt nodes) is
+
+-- the sequent of a row
+abbrev pub sequentOf : List Node → Row → Sequent
+sequentOf nodes r = record { kind = kindOf (entry (r .rule)); left = decoded nodes (r .left); right = decoded nodes (r .right) }

@@ -1,0 +1,151 @@
+-- How a text is judged: a fold over its lines, of which the first that is refused decides (paper 01, "How a text is
+-- turned down"), and the claim that the text makes.
+use Prim.Native.Nat.{ℕ, _+_}
+use mathlib.Core.Path.{_≡_}
+use mathlib.Core.Bool.{cond}
+use mathlib.Core.List.{List, [], _∷_, _++_}
+use mathlib.Core.Option.{Option, none, some}
+use lib.Dec.{ltb}
+use lib.ListN.{length, getD}
+use Rattle.equilibrium.specs.Meaning.{_∈_, Fails}
+use Rattle.format.specs.Text.{Bytes, linesOf, fieldsOf, _<$>_}
+use Rattle.format.specs.File.{Node, Row, Claim, Body, Stage, in-atoms, in-formulas, in-rows, claimed, File, noFile, decoded}
+use Rattle.format.specs.Line.{Line, atomLine, formulaLine, rowLine, claimLine, lineOf}
+use Rattle.format.specs.Tables.{Lent, tooShort, Contents, encode, mostBytes}
+use Rattle.format.specs.Tests.{first, atomTests, formulaTests, rowTests, claimTests}
+
+-- where a line stands: its number from 1, and the byte of the text at which it starts
+pub record Place : Type 0 where
+  pub line : ℕ
+  pub start : ℕ
+
+-- what a line, or a beginning, comes to: the state after it, or a refusal number with its line
+pub data Outcome (S : Type 0) : Type 0 where
+  next : S → Outcome S
+  refused : ℕ → ℕ → Outcome S
+
+-- the file with one line more, where no test applies
+abbrev pub settled : Option ℕ → Place → File → Outcome File
+settled none p f = next f
+settled (some n) p f = refused n (p .line)
+
+-- the byte at which the third field of an A line starts
+abbrev pub nameStart : Place → Bytes → ℕ
+nameStart p line = p .start + 3 + length (getD (fieldsOf line) 1 [])
+
+abbrev pub withAtom : File → ℕ → Bytes → File
+withAtom f start name =
+    record {
+      names = f .names ++ record { start = start; name = name } ∷ [];
+      body = record { atoms = f .body .atoms + 1; nodes = f .body .nodes; rows = f .body .rows };
+      stage = in-atoms;
+      claim = f .claim;
+    }
+
+abbrev pub withNode : File → Node → File
+withNode f node =
+    record { names = f .names; body = record { atoms = f .body .atoms; nodes = f .body .nodes ++ node ∷ []; rows = f .body .rows }; stage = in-formulas; claim = f .claim }
+
+abbrev pub addRow : Body → Row → Body
+addRow b r = record { atoms = b .atoms; nodes = b .nodes; rows = b .rows ++ r ∷ [] }
+
+abbrev pub withRow : File → Row → File
+withRow f r = record { names = f .names; body = addRow (f .body) r; stage = in-rows; claim = f .claim }
+
+abbrev pub withClaim : File → Claim → File
+withClaim f c = record { names = f .names; body = f .body; stage = claimed; claim = some c }
+
+-- a line that is well written
+unfoldable pub stepRead : File → Place → Bytes → Line → Outcome File
+stepRead f p line (atomLine n name) = settled (first (atomTests f n name)) p (withAtom f (nameStart p line) name)
+stepRead f p line (formulaLine n node) = settled (first (formulaTests f n node)) p (withNode f node)
+stepRead f p line (rowLine n r) = settled (first (rowTests f n r)) p (withRow f r)
+stepRead f p line (claimLine left right) = settled (first (claimTests f left right)) p (withClaim f (record { line = p .line; left = left; right = right }))
+
+abbrev pub orBadLine : Option Line → Place → (Line → Outcome File) → Outcome File
+orBadLine none p k = refused 3 (p .line)
+orBadLine (some l) p k = k l
+
+-- one line
+unfoldable pub step : File → Place → Bytes → Outcome File
+step f p line = orBadLine (lineOf line) p (stepRead f p line)
+
+abbrev pub after : {S : Type 0} → Outcome S → (S → Outcome S) → Outcome S
+after (next s) k = k s
+after (refused n l) k = refused n l
+
+abbrev pub below : Place → Bytes → Place
+below p line = record { line = p .line + 1; start = p .start + length line + 1 }
+
+-- complete lines in order, by any step
+unfoldable pub run : {S : Type 0} → (S → Place → Bytes → Outcome S) → Place → List Bytes → S → Outcome S
+run step p [] s = next s
+run step p (l ∷ ls) s = after (step s p l) (run step (below p l) ls)
+
+abbrev pub top : Place
+top = record { line = 1; start = 0 }
+
+-- the complete lines of a text
+unfoldable pub beginning : Bytes → Outcome File
+beginning text = run step top (linesOf text .complete) noFile
+
+-- 01's number and line
+pub data Answer : Type 0 where
+  accepted : ℕ → Answer
+  turnedDown : ℕ → ℕ → Answer
+
+abbrev pub numberIn : Answer → ℕ
+numberIn (accepted l) = 0
+numberIn (turnedDown n l) = n
+
+abbrev pub lineIn : Answer → ℕ
+lineIn (accepted l) = l
+lineIn (turnedDown n l) = l
+
+abbrev pub orNoClaim : Option Claim → ℕ → Answer
+orNoClaim none l = turnedDown 13 l
+orNoClaim (some c) l = accepted (c .line)
+
+-- after the last complete line: bytes with no LF are a bad line, and then a claim may be missing
+abbrev pub finish : Outcome File → Bytes → ℕ → Answer
+finish (refused n k) rest l = turnedDown n k
+finish (next f) [] l = orNoClaim (f .claim) l
+finish (next f) (b ∷ bs) l = turnedDown 3 l
+
+-- the answer to a text, with tables of these lengths lent
+unfoldable pub judged : Lent → Bytes → Answer
+judged t text =
+    cond (tooShort t) (turnedDown 1 0) (
+    cond (ltb mostBytes (length text)) (turnedDown 2 0) (finish (beginning text) (linesOf text .rest) (length (linesOf text .complete) + 1)))
+
+abbrev pub heldBy : Answer → Outcome File → Contents
+heldBy (accepted l) (next f) = encode f
+heldBy (accepted l) (refused n k) = encode noFile
+heldBy (turnedDown n l) o = encode noFile
+
+-- what the tables hold in the end; zeros follow in each
+unfoldable pub contents : Lent → Bytes → Contents
+contents t text = heldBy (judged t text) (beginning text)
+
+-- the text's claim, read off its own lines with no regard to the judgement
+
+abbrev pub addNode : Option Line → List Node → List Node
+addNode none ns = ns
+addNode (some (atomLine n name)) ns = ns
+addNode (some (formulaLine n node)) ns = node ∷ ns
+addNode (some (rowLine n r)) ns = ns
+addNode (some (claimLine left right)) ns = ns
+
+-- the formulas of the F lines
+abbrev pub nodesIn : List Bytes → List Node
+nodesIn [] = []
+nodesIn (l ∷ ls) = addNode (lineOf l) (nodesIn ls)
+
+-- some C line of the text claims a sequent that fails
+pub record ClaimFails (text : Bytes) : Type 0 where
+  pub line : Bytes
+  pub left : List ℕ
+  pub right : List ℕ
+  pub in-text : line ∈ linesOf text .complete
+  pub is-claim : lineOf line ≡ some (claimLine left right)
+  pub fails : Fails (decoded (nodesIn (linesOf text .complete)) left) (decoded (nodesIn (linesOf text .complete)) right)

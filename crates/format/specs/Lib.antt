@@ -1,0 +1,7 @@
+pub mod Text
+pub mod File
+pub mod Line
+pub mod Tables
+pub mod Tests
+pub mod Judged
+pub mod Held

@@ -1,0 +1,85 @@
+-- One line, as it is written (paper 01, "The text").
+use Prim.Native.Nat.{ℕ}
+use Prim.Native.String.{String}
+use mathlib.Core.Bool.{Bool, cond, _&&_}
+use mathlib.Core.List.{List, [], _∷_}
+use mathlib.Core.Option.{Option, none, some}
+use Rattle.elk.specs.Rules.{Rule, rules, wordOf}
+use Rattle.format.specs.Text.{Bytes, fieldsOf, numberOf, sideOf, premisesOf, principalOf, is, _<$>_, _<*>_, onlyIf}
+use Rattle.format.specs.File.{Node, Row}
+
+pub data Line : Type 0 where
+  atomLine : ℕ → Bytes → Line
+  formulaLine : ℕ → Node → Line
+  rowLine : ℕ → Row → Line
+  claimLine : List ℕ → List ℕ → Line
+
+-- the first of the rules whose word this is
+abbrev pub ruleAmong : List Rule → Bytes → Option Rule
+ruleAmong [] field = none
+ruleAmong (r ∷ rs) field = cond (is (wordOf r) field) (some r) (ruleAmong rs field)
+
+unfoldable pub ruleOf : Bytes → Option Rule
+ruleOf field = ruleAmong rules field
+
+abbrev pub unary : (ℕ → Node) → Bytes → Bytes → Option Node
+unary node first second = onlyIf (is "-" second) (node <$> numberOf first)
+
+abbrev pub binary : (ℕ → ℕ → Node) → Bytes → Bytes → Option Node
+binary node first second = node <$> numberOf first <*> numberOf second
+
+-- `bot - -`, `atom k -`, `not i -`, `and i j`, `or i j`, `imp i j`
+unfoldable pub nodeOf : Bytes → Bytes → Bytes → Option Node
+nodeOf word first second =
+    cond (is "bot" word) (onlyIf (is "-" first && is "-" second) (some Node.bot)) (
+    cond (is "atom" word) (unary Node.atom first second) (
+    cond (is "not" word) (unary Node.not first second) (
+    cond (is "and" word) (binary Node.and first second) (
+    cond (is "or" word) (binary Node.or first second) (cond (is "imp" word) (binary Node.imp first second) none)))))
+
+-- number, name
+unfoldable pub atomFields : List Bytes → Option Line
+atomFields (number ∷ name ∷ []) = (λ n. atomLine n name) <$> numberOf number
+atomFields [] = none
+atomFields (number ∷ []) = none
+atomFields (number ∷ name ∷ f ∷ fs) = none
+
+-- number, word, first, second
+unfoldable pub formulaFields : List Bytes → Option Line
+formulaFields (number ∷ word ∷ first ∷ second ∷ []) = (λ n node. formulaLine n node) <$> numberOf number <*> nodeOf word first second
+formulaFields [] = none
+formulaFields (number ∷ []) = none
+formulaFields (number ∷ word ∷ []) = none
+formulaFields (number ∷ word ∷ first ∷ []) = none
+formulaFields (number ∷ word ∷ first ∷ second ∷ f ∷ fs) = none
+
+abbrev pub makeRow : Rule → Option ℕ → List ℕ → List ℕ → List ℕ → Row
+makeRow rule principal premises left right = record { rule = rule; principal = principal; premises = premises; left = left; right = right }
+
+-- number, rule, principal, premises, left, right
+unfoldable pub rowFields : List Bytes → Option Line
+rowFields (number ∷ word ∷ principal ∷ premises ∷ left ∷ right ∷ []) =
+    (λ n row. rowLine n row) <$> numberOf number <*> (makeRow <$> ruleOf word <*> principalOf principal <*> premisesOf premises <*> sideOf left <*> sideOf right)
+rowFields [] = none
+rowFields (number ∷ []) = none
+rowFields (number ∷ word ∷ []) = none
+rowFields (number ∷ word ∷ principal ∷ []) = none
+rowFields (number ∷ word ∷ principal ∷ premises ∷ []) = none
+rowFields (number ∷ word ∷ principal ∷ premises ∷ left ∷ []) = none
+rowFields (number ∷ word ∷ principal ∷ premises ∷ left ∷ right ∷ f ∷ fs) = none
+
+-- left, right
+unfoldable pub claimFields : List Bytes → Option Line
+claimFields (left ∷ right ∷ []) = (λ l r. claimLine l r) <$> sideOf left <*> sideOf right
+claimFields [] = none
+claimFields (left ∷ []) = none
+claimFields (left ∷ right ∷ f ∷ fs) = none
+
+abbrev pub ofKind : List Bytes → Option Line
+ofKind [] = none
+ofKind (kind ∷ fields) =
+    cond (is "A" kind) (atomFields fields) (cond (is "F" kind) (formulaFields fields) (cond (is "N" kind) (rowFields fields) (cond (is "C" kind) (claimFields fields) none)))
+
+-- the line that these bytes write; none if they are badly written
+unfoldable pub lineOf : Bytes → Option Line
+lineOf line = ofKind (fieldsOf line)

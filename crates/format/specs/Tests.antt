@@ -1,0 +1,163 @@
+-- What each kind of line can be refused for (paper 01, "How a text is turned down"): a list of tests, each under its
+-- number, of which the first that applies is given.
+use Prim.Native.Nat.{ℕ, _+_}
+use mathlib.Core.Bool.{Bool, true, false, cond, not, _&&_, _||_}
+use mathlib.Core.List.{List, [], _∷_, _++_, map}
+use mathlib.Core.Option.{Option, none, some}
+use lib.Dec.{eqb, ltb, leb}
+use lib.ListN.{length, getD}
+use Rattle.elk.specs.Sequent.{Kind, elk, refutation, Sequent}
+use Rattle.elk.specs.Rules.{entry, hasPrincipal, premiseKinds, kindOf}
+use Rattle.elk.proofs.Decision.{instance?}
+use Rattle.format.specs.Text.{Bytes, _<$>_, any, isName, sameList, strictlyRising}
+use Rattle.format.specs.File.{Node, Row, Body, Stage, in-atoms, in-formulas, in-rows, claimed, File, decodedAt, sequentOf}
+use Rattle.format.specs.Tables.{nodeRecord, leftPool, rightPool, mostAtoms, mostFormulas, mostRows, mostEntries, mostOnSide}
+
+pub record Test : Type 0 where
+  pub number : ℕ
+  pub applies : Bool
+
+infix 4 _when_
+abbrev pub _when_ : ℕ → Bool → Test
+n when b = record { number = n; applies = b }
+
+-- the number of the first test that applies
+abbrev pub first : List Test → Option ℕ
+first [] = none
+first (t ∷ ts) = cond (t .applies) (some (t .number)) (first ts)
+
+abbrev pub rank : Stage → ℕ
+rank in-atoms = 0
+rank in-formulas = 1
+rank in-rows = 2
+rank claimed = 3
+
+-- a line of stage t may follow stage s: never back, and nothing after the claim
+abbrev pub mayFollow : Stage → Stage → Bool
+mayFollow s t = leb (rank s) (rank t) && ltb (rank s) (rank claimed)
+
+-- the kind is out of order, or the number is not the next one
+abbrev pub outOfOrder : Stage → Stage → ℕ → ℕ → Bool
+outOfOrder s t held number = not (mayFollow s t) || not (eqb number held)
+
+-- the number is not among the first so many
+abbrev pub notEarlier : ℕ → ℕ → Bool
+notEarlier held i = leb held i
+
+-- some formula number of the list is not earlier
+abbrev pub unknownFormula : Body → List ℕ → Bool
+unknownFormula b is = any (notEarlier (length (b .nodes))) is
+
+abbrev pub listed : Option ℕ → List ℕ
+listed none = []
+listed (some i) = i ∷ []
+
+-- A
+
+abbrev pub atomTests : File → ℕ → Bytes → List Test
+atomTests f n name =
+    (4 when outOfOrder (f .stage) in-atoms (f .body .atoms) n)
+    ∷ (5 when leb mostAtoms (f .body .atoms))
+    ∷ (6 when not (isName name) || any (λ m. sameList (m .name) name) (f .names))
+    ∷ []
+
+-- F
+
+abbrev pub refersAhead : Body → Node → Bool
+refersAhead b Node.bot = false
+refersAhead b (Node.atom k) = notEarlier (b .atoms) k
+refersAhead b (Node.not i) = unknownFormula b (i ∷ [])
+refersAhead b (Node.and i j) = unknownFormula b (i ∷ j ∷ [])
+refersAhead b (Node.or i j) = unknownFormula b (i ∷ j ∷ [])
+refersAhead b (Node.imp i j) = unknownFormula b (i ∷ j ∷ [])
+
+-- the same word and operands
+abbrev pub sameNode : Node → Node → Bool
+sameNode m n = sameList (nodeRecord m) (nodeRecord n)
+
+abbrev pub formulaTests : File → ℕ → Node → List Test
+formulaTests f n node =
+    (4 when outOfOrder (f .stage) in-formulas (length (f .body .nodes)) n)
+    ∷ (5 when leb mostFormulas (length (f .body .nodes)))
+    ∷ (7 when refersAhead (f .body) node)
+    ∷ (8 when any (λ m. sameNode m node) (f .body .nodes))
+    ∷ []
+
+-- N. Its tests but 4 are by the body alone.
+
+-- a pool with so many entries has no room for these
+abbrev pub passed : List ℕ → List ℕ → Bool
+passed pool entries = ltb mostEntries (length pool + length entries)
+
+abbrev pub roomTests : Body → Row → List Test
+roomTests b r = (5 when leb mostRows (length (b .rows)) || passed (leftPool (b .rows)) (r .left) || passed (rightPool (b .rows)) (r .right)) ∷ []
+
+abbrev pub referenceTests : Body → Row → List Test
+referenceTests b r =
+    (7 when unknownFormula b (listed (r .principal)) || any (notEarlier (length (b .rows))) (r .premises) || unknownFormula b (r .left) || unknownFormula b (r .right)) ∷ []
+
+-- not strictly rising, or too many
+abbrev pub badSide : List ℕ → Bool
+badSide is = not (strictlyRising is) || ltb mostOnSide (length is)
+
+abbrev pub sideTests : List ℕ → List ℕ → List Test
+sideTests left right = (9 when badSide left || badSide right) ∷ []
+
+abbrev pub sameKind : Kind → Kind → Bool
+sameKind elk elk = true
+sameKind elk refutation = false
+sameKind refutation elk = false
+sameKind refutation refutation = true
+
+abbrev pub sameKinds : List Kind → List Kind → Bool
+sameKinds [] [] = true
+sameKinds [] (k ∷ ks) = false
+sameKinds (j ∷ js) [] = false
+sameKinds (j ∷ js) (k ∷ ks) = sameKind j k && sameKinds js ks
+
+abbrev pub present : Option ℕ → Bool
+present none = false
+present (some i) = true
+
+abbrev pub sameTruth : Bool → Bool → Bool
+sameTruth true b = b
+sameTruth false b = not b
+
+-- the sequents that the premises' numbers name; each is earlier where test 7 passed
+abbrev pub premisesOf : Body → Row → List Sequent
+premisesOf b r = map (λ i. sequentOf (b .nodes) (getD (b .rows) i r)) (r .premises)
+
+unfoldable pub wrongPremises : Body → Row → Bool
+wrongPremises b r =
+    not (sameTruth (present (r .principal)) (hasPrincipal (entry (r .rule)))) || not (sameKinds (map (λ s. s .kind) (premisesOf b r)) (premiseKinds (entry (r .rule))))
+
+abbrev pub isNo : {X : Type 0} → Dec X → Bool
+isNo (yes x) = false
+isNo (no n) = true
+
+-- no sets L, R (Q, S) make the row an instance of its rule
+unfoldable pub wrongStep : Body → Row → Bool
+wrongStep b r = isNo (instance? (r .rule) (decodedAt (b .nodes) <$> r .principal) (premisesOf b r) (sequentOf (b .nodes) r))
+
+abbrev pub ruleTests : Body → Row → List Test
+ruleTests b r = (10 when wrongPremises b r) ∷ (11 when wrongStep b r) ∷ []
+
+abbrev pub bodyTests : Body → Row → List Test
+bodyTests b r = roomTests b r ++ referenceTests b r ++ sideTests (r .left) (r .right) ++ ruleTests b r
+
+abbrev pub rowTests : File → ℕ → Row → List Test
+rowTests f n r = (4 when outOfOrder (f .stage) in-rows (length (f .body .rows)) n) ∷ bodyTests (f .body) r
+
+-- C
+
+-- the last row is an ELK row with exactly these sides
+abbrev pub lastIs : List Row → List ℕ → List ℕ → Bool
+lastIs [] left right = false
+lastIs (r ∷ []) left right = sameKind (kindOf (entry (r .rule))) elk && sameList (r .left) left && sameList (r .right) right
+lastIs (r ∷ q ∷ qs) left right = lastIs (q ∷ qs) left right
+
+abbrev pub claimTests : File → List ℕ → List ℕ → List Test
+claimTests f left right =
+    (4 when not (mayFollow (f .stage) claimed))
+    ∷ (7 when unknownFormula (f .body) left || unknownFormula (f .body) right)
+    ∷ (sideTests left right ++ (12 when not (lastIs (f .body .rows) left right)) ∷ [])

@@ -1,0 +1,141 @@
+-- The parts of a text: lines, fields, numbers, lists and names (paper 01, "The text"). A text is its list of bytes.
+use Prim.Native.Nat.{ℕ, _+_, _*_, _-_}
+use Prim.Native.String.{String, [] as end, _∷_ as then}
+use Prim.Native.Char.{code}
+use mathlib.Core.Bool.{Bool, true, false, cond, not, _&&_, _||_}
+use mathlib.Core.List.{List, [], _∷_}
+use mathlib.Core.Option.{Option, none, some}
+use lib.Dec.{eqb, ltb, leb}
+use lib.ListN.{length}
+
+abbrev pub Bytes : Type 0
+Bytes = List ℕ
+
+-- a quoted text as bytes
+abbrev pub bytes : String → Bytes
+bytes end = []
+bytes (then c s) = code c ∷ bytes s
+
+abbrev pub tab : ℕ
+tab = 9
+
+abbrev pub lineFeed : ℕ
+lineFeed = 10
+
+abbrev pub comma : ℕ
+comma = 44
+
+-- a byte put in front of the first part
+abbrev pub onto : ℕ → List Bytes → List Bytes
+onto b [] = (b ∷ []) ∷ []
+onto b (part ∷ parts) = (b ∷ part) ∷ parts
+
+-- what stands before, between and after the separators: one part more than there are separators
+unfoldable pub partsAt : ℕ → Bytes → List Bytes
+partsAt separator [] = [] ∷ []
+partsAt separator (b ∷ bs) = cond (eqb b separator) ([] ∷ partsAt separator bs) (onto b (partsAt separator bs))
+
+-- the lines that end in LF, and what is left after the last LF
+pub record Lines : Type 0 where
+  pub complete : List Bytes
+  pub rest : Bytes
+
+abbrev pub allButLast : List Bytes → Lines
+allButLast [] = record { complete = []; rest = [] }
+allButLast (p ∷ []) = record { complete = []; rest = p }
+allButLast (p ∷ q ∷ ps) = record { complete = p ∷ allButLast (q ∷ ps) .complete; rest = allButLast (q ∷ ps) .rest }
+
+unfoldable pub linesOf : Bytes → Lines
+linesOf text = allButLast (partsAt lineFeed text)
+
+unfoldable pub fieldsOf : Bytes → List Bytes
+fieldsOf line = partsAt tab line
+
+infixl 20 _<$>_ _<*>_
+-- a function of what is there
+abbrev pub _<$>_ : {A B : Type 0} → (A → B) → Option A → Option B
+f <$> none = none
+f <$> some a = some (f a)
+
+-- a function and its argument, where both are there
+abbrev pub _<*>_ : {A B : Type 0} → Option (A → B) → Option A → Option B
+none <*> a = none
+some f <*> a = f <$> a
+
+abbrev pub onlyIf : {A : Type 0} → Bool → Option A → Option A
+onlyIf true a = a
+onlyIf false a = none
+
+-- every one, or none
+abbrev pub each : {A B : Type 0} → (A → Option B) → List A → Option (List B)
+each f [] = some []
+each f (x ∷ xs) = (λ y ys. y ∷ ys) <$> f x <*> each f xs
+
+abbrev pub all : {A : Type 0} → (A → Bool) → List A → Bool
+all f [] = true
+all f (x ∷ xs) = f x && all f xs
+
+abbrev pub any : {A : Type 0} → (A → Bool) → List A → Bool
+any f [] = false
+any f (x ∷ xs) = f x || any f xs
+
+unfoldable pub sameList : List ℕ → List ℕ → Bool
+sameList [] [] = true
+sameList [] (y ∷ ys) = false
+sameList (x ∷ xs) [] = false
+sameList (x ∷ xs) (y ∷ ys) = eqb x y && sameList xs ys
+
+-- the field is this word
+abbrev pub is : String → Bytes → Bool
+is word field = sameList field (bytes word)
+
+-- from '0' to '9'
+abbrev pub isDigit : ℕ → Bool
+isDigit b = leb 48 b && leb b 57
+
+-- from 'a' to 'z'
+abbrev pub isLetter : ℕ → Bool
+isLetter b = leb 97 b && leb b 122
+
+-- the value of decimal digits that follow those of n
+abbrev pub valueFrom : ℕ → Bytes → ℕ
+valueFrom n [] = n
+valueFrom n (d ∷ ds) = valueFrom (n * 10 + (d - 48)) ds
+
+abbrev pub leadingZero : Bytes → Bool
+leadingZero [] = false
+leadingZero (d ∷ []) = false
+leadingZero (d ∷ e ∷ ds) = eqb d 48
+
+-- 1 to 5 digits and no leading zero, except 0 itself
+unfoldable pub numberOf : Bytes → Option ℕ
+numberOf field = onlyIf (leb 1 (length field) && leb (length field) 5 && all isDigit field && not (leadingZero field)) (some (valueFrom 0 field))
+
+-- numbers parted by commas, or `-` if empty
+unfoldable pub listOf : Bytes → Option (List ℕ)
+listOf field = cond (is "-" field) (some []) (each numberOf (partsAt comma field))
+
+-- a list of formula numbers
+abbrev pub sideOf : Bytes → Option (List ℕ)
+sideOf field = listOf field
+
+-- a list of row numbers
+abbrev pub premisesOf : Bytes → Option (List ℕ)
+premisesOf field = listOf field
+
+-- a formula number, or `-` if absent
+unfoldable pub principalOf : Bytes → Option (Option ℕ)
+principalOf field = cond (is "-" field) (some none) ((λ n. some n) <$> numberOf field)
+
+abbrev pub startsWithLetter : Bytes → Bool
+startsWithLetter [] = false
+startsWithLetter (b ∷ bs) = isLetter b
+
+-- 1 to 24 of a-z, 0-9 and `_`, the first a letter
+unfoldable pub isName : Bytes → Bool
+isName field = startsWithLetter field && leb (length field) 24 && all (λ b. isLetter b || isDigit b || eqb b 95) field
+
+unfoldable pub strictlyRising : List ℕ → Bool
+strictlyRising [] = true
+strictlyRising (i ∷ []) = true
+strictlyRising (i ∷ j ∷ js) = ltb i j && strictlyRising (j ∷ js)

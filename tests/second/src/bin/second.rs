@@ -1,0 +1,29 @@
+//! Judges the text on standard input and prints number, tab, line, LF.
+//!
+//! `--tables` also prints the five tables, a line each: name, lent length, used
+//! length, and the used entries parted by commas (`-` for none), parted by tabs. The
+//! rest of a table is zero. `--compare` decides every small instance in both ways.
+
+use second::judge::{Deciding, LEAST, judge_closely};
+use std::cell::Cell;
+use std::io::{Read, Write};
+
+fn main() -> std::io::Result<()> {
+    let options: Vec<String> = std::env::args().skip(1).collect();
+    let asked = |option: &str| options.iter().any(|given| given == option);
+    let mut text = vec![];
+    std::io::stdin().lock().read_to_end(&mut text)?;
+    let compared = Cell::new(0);
+    let deciding = if asked("--compare") { Deciding::Compared(&compared) } else { Deciding::Fast };
+    let (judgement, _) = judge_closely(&text, &LEAST, deciding);
+    let mut out = std::io::stdout().lock();
+    writeln!(out, "{}\t{}", judgement.number, judgement.line)?;
+    if asked("--tables") {
+        for (name, (table, used)) in judgement.tables.zip(judgement.used).listed() {
+            let entries: Vec<String> = table[..used].iter().map(u16::to_string).collect();
+            let entries = if used == 0 { "-".into() } else { entries.join(",") };
+            writeln!(out, "{name}\t{}\t{used}\t{entries}", table.len())?;
+        }
+    }
+    Ok(())
+}

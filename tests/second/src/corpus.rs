@@ -1,0 +1,128 @@
+//! The corpus: texts with the answers that the papers ask for.
+//!
+//! No answer here comes from a checker. A number stands beside its text, or follows
+//! from how the text is built; a line is stated, or counted while building.
+
+mod examples;
+mod families;
+mod limits;
+mod numbers;
+mod pairs;
+mod rows;
+mod steps;
+mod texts;
+
+use std::collections::BTreeMap;
+use std::path::Path;
+
+/// A text and the answer it earns. The name is `group/what_it_shows`.
+#[derive(Clone, Debug)]
+pub struct Case {
+    pub name: String,
+    pub text: Vec<u8>,
+    pub number: u16,
+    pub line: usize,
+}
+
+/// All cases, sorted by name.
+pub fn cases() -> Vec<Case> {
+    let groups = [
+        examples::cases(),
+        texts::cases(),
+        numbers::cases(),
+        pairs::cases(),
+        limits::cases(),
+        steps::cases(),
+        families::cases(),
+    ];
+    let mut cases = groups.concat();
+    cases.sort_by(|a, b| a.name.cmp(&b.name));
+    cases
+}
+
+/// The files of the corpus folder, by path inside it.
+pub fn files() -> BTreeMap<String, Vec<u8>> {
+    let cases = cases();
+    let answer = |case: &Case| format!("{}\t{}\t{}\n", case.name, case.number, case.line);
+    let answers: String = cases.iter().map(answer).collect();
+    let texts = cases.into_iter().map(|case| (format!("{}.txt", case.name), case.text));
+    texts.chain([("answers.tsv".into(), answers.into_bytes())]).collect()
+}
+
+/// Writes the corpus into a folder.
+pub fn write(folder: &Path) -> std::io::Result<()> {
+    for (name, content) in files() {
+        let path = folder.join(name);
+        std::fs::create_dir_all(path.parent().expect("a file is in a folder"))?;
+        std::fs::write(path, content)?;
+    }
+    Ok(())
+}
+
+/// A case written out byte by byte.
+fn raw(name: &str, number: u16, line: usize, text: impl Into<Vec<u8>>) -> Case {
+    Case { name: name.into(), text: text.into(), number, line }
+}
+
+/// A case written as the paper writes its whole file: ` / ` between lines, a space
+/// for each tab.
+fn plain(name: &str, number: u16, line: usize, lines: &str) -> Case {
+    raw(name, number, line, tabbed(lines))
+}
+
+fn tabbed(lines: &str) -> String {
+    lines.split(" / ").map(|line| line.replace(' ', "\t") + "\n").collect()
+}
+
+#[cfg(test)]
+mod tests {
+    use super::*;
+    use crate::judge::{Deciding, LEAST, judge_closely};
+    use std::cell::Cell;
+    use std::collections::BTreeSet;
+
+    #[test]
+    fn names_are_used_once() {
+        let names: BTreeSet<String> = cases().into_iter().map(|case| case.name).collect();
+        assert_eq!(names.len(), cases().len());
+    }
+
+    #[test]
+    fn second_checker_answers_as_the_corpus_says() {
+        let differs = |case: &Case| {
+            let compared = Cell::new(0);
+            let (judgement, _) = judge_closely(&case.text, &LEAST, Deciding::Compared(&compared));
+            let found = (judgement.number, judgement.line);
+            (found != (case.number, case.line)).then(|| format!("{} earns {found:?}", case.name))
+        };
+        let different: Vec<String> = cases().iter().filter_map(differs).collect();
+        assert!(different.is_empty(), "{different:#?}");
+    }
+
+    #[test]
+    fn folder_holds_what_is_written_here() {
+        let folder = Path::new(env!("CARGO_MANIFEST_DIR")).join("../corpus");
+        let mut found = BTreeMap::new();
+        for group in std::fs::read_dir(&folder).expect("the corpus folder").map(|e| e.unwrap().path()) {
+            let files = match group.is_dir() {
+                true => std::fs::read_dir(group).unwrap().map(|e| e.unwrap().path()).collect(),
+                false => vec![group],
+            };
+            for file in files {
+                let name = file.strip_prefix(&folder).unwrap().to_str().unwrap().replace('\\', "/");
+                found.insert(name, std::fs::read(file).unwrap());
+            }
+        }
+        let expected = files();
+        assert_eq!(found.keys().collect::<Vec<_>>(), expected.keys().collect::<Vec<_>>());
+        for (name, content) in expected {
+            assert!(found[&name] == content, "{name} is not what is written here");
+        }
+    }
+
+    #[test]
+    fn every_number_but_1_is_earned() {
+        let earned: BTreeSet<u16> = cases().iter().map(|case| case.number).collect();
+        assert!(earned.into_iter().eq((0..=13).filter(|&number| number != 1)));
+    }
+}

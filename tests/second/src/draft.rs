@@ -1,0 +1,136 @@
+//! A derivation that is being put together, and its text.
+
+use crate::formula::{Formula, FormulaSet, Formulas, Node};
+use crate::random::Random;
+use crate::rules::ELK;
+use crate::sequent::{Kind, Sequent};
+use std::collections::HashMap;
+
+#[derive(Clone, Debug)]
+pub struct DraftRow {
+    pub rule: usize,
+    pub principal: Option<Formula>,
+    pub premises: Vec<usize>,
+    pub sequent: Sequent,
+}
+
+impl DraftRow {
+    pub fn kind(&self) -> Kind {
+        ELK.rules[self.rule].conclusion.kind
+    }
+}
+
+/// Atoms are named, formulas are numbered in the order of `listed`, which holds every
+/// formula of the rows after its parts.
+pub struct Draft {
+    pub names: Vec<String>,
+    pub formulas: Formulas,
+    pub listed: Vec<Formula>,
+    pub rows: Vec<DraftRow>,
+}
+
+impl Draft {
+    /// Numbers the formulas of the rows, and those in `first` before them.
+    pub fn new(names: Vec<String>, formulas: Formulas, first: &[Formula], rows: Vec<DraftRow>) -> Self {
+        let mut draft = Draft { names, formulas, listed: vec![], rows };
+        let of_row = |row: &DraftRow| {
+            let Sequent { antecedent, succedent } = row.sequent.clone();
+            row.principal.into_iter().chain(antecedent).chain(succedent).collect::<Vec<_>>()
+        };
+        let wanted: Vec<Formula> = draft.rows.iter().flat_map(of_row).collect();
+        let mut listed = vec![false; draft.formulas.nodes().len()];
+        for formula in first.iter().copied().chain(wanted) {
+            draft.list(formula, &mut listed);
+        }
+        draft
+    }
+
+    fn list(&mut self, formula: Formula, listed: &mut [bool]) {
+        if std::mem::replace(&mut listed[self.formulas.place(formula)], true) {
+            return;
+        }
+        for part in self.formulas.node(formula).parts() {
+            self.list(part, listed);
+        }
+        self.listed.push(formula);
+    }
+
+    /// Numbers the formulas anew, at random, parts still before wholes.
+    pub fn shuffle(&mut self, random: &mut Random) {
+        let mut waiting = std::mem::take(&mut self.listed);
+        random.shuffle(&mut waiting);
+        let mut listed = vec![false; self.formulas.nodes().len()];
+        for formula in waiting {
+            self.list(formula, &mut listed);
+        }
+    }
+
+    /// The text whose claim is the last row's sides.
+    pub fn text(&self) -> Vec<u8> {
+        let claim = self.rows.last().map(|row| row.sequent.clone()).unwrap_or_default();
+        self.text_claiming(&claim)
+    }
+
+    pub fn text_claiming(&self, claim: &Sequent) -> Vec<u8> {
+        let numbers: HashMap<Formula, usize> = self.listed.iter().enumerate().map(|(k, &f)| (f, k)).collect();
+        let mut text = String::new();
+        let mut line = |fields: &[String]| {
+            text.push_str(&fields.join("\t"));
+            text.push('\n');
+        };
+        for (k, name) in self.names.iter().enumerate() {
+            line(&["A".into(), k.to_string(), name.clone()]);
+        }
+        for (k, &formula) in self.listed.iter().enumerate() {
+            let [word, first, second] = self.word(formula, &numbers);
+            line(&["F".into(), k.to_string(), word, first, second]);
+        }
+        let side = |set: &FormulaSet| {
+            let mut side: Vec<usize> = set.iter().map(|f| numbers[f]).collect();
+            side.sort();
+            list(&side)
+        };
+        for (k, row) in self.rows.iter().enumerate() {
+            line(&[
+                "N".into(),
+                k.to_string(),
+                ELK.rules[row.rule].name.into(),
+                row.principal.map_or("-".into(), |f| numbers[&f].to_string()),
+                list(&row.premises),
+                side(&row.sequent.antecedent),
+                side(&row.sequent.succedent),
+            ]);
+        }
+        line(&["C".into(), side(&claim.antecedent), side(&claim.succedent)]);
+        text.into_bytes()
+    }
+
+    fn word(&self, formula: Formula, numbers: &HashMap<Formula, usize>) -> [String; 3] {
+        let node = self.formulas.node(formula);
+        let (word, operands) = match node {
+            Node::Falsum => ("bot", vec![]),
+            Node::Atom(k) => ("atom", vec![k as usize]),
+            Node::Not(_) => ("not", vec![]),
+            Node::And(..) => ("and", vec![]),
+            Node::Or(..) => ("or", vec![]),
+            Node::Implies(..) => ("imp", vec![]),
+        };
+        let parts = node.parts().into_iter().map(|part| numbers[&part]);
+        let mut operands = operands.into_iter().chain(parts).map(|number| number.to_string());
+        let mut operand = || operands.next().unwrap_or("-".into());
+        [word.into(), operand(), operand()]
+    }
+}
+
+/// A list of numbers as the files write it.
+pub fn list(numbers: &[usize]) -> String {
+    match numbers {
+        [] => "-".into(),
+        _ => numbers.iter().map(usize::to_string).collect::<Vec<_>>().join(","),
+    }
+}
+
+/// Names for so many atoms.
+pub fn names(count: usize) -> Vec<String> {
+    (0..count).map(|k| format!("a{k}")).collect()
+}

@@ -1,0 +1,20 @@
+//! A second checker of ELK derivation files, written from the papers alone, and
+//! the tests around it: a brute-force semantics, a generator and a mutator of
+//! derivations, and the corpus. It shares nothing with the proved crates, so that
+//! a misreading of the papers shows as a difference.
+
+pub mod corpus;
+pub mod draft;
+pub mod formula;
+pub mod fuzz;
+pub mod generate;
+pub mod instance;
+pub mod judge;
+pub mod line;
+pub mod mutate;
+pub mod notation;
+pub mod prove;
+pub mod random;
+pub mod rules;
+pub mod semantics;
+pub mod sequent;

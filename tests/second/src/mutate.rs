@@ -1,0 +1,195 @@
+//! Damage to texts: to bytes, lines, fields, numbers, sides, premises and rules, and
+//! growth beyond the limits. Most of it leaves the text nearly right.
+
+use crate::draft::list;
+use crate::random::Random;
+use crate::rules::ELK;
+
+/// A text as lines of fields, without the last LF.
+type Fields = Vec<Vec<String>>;
+
+/// The text, damaged once or twice.
+pub fn mutate(random: &mut Random, text: &[u8]) -> Vec<u8> {
+    let mut text = text.to_vec();
+    for _ in 0..1 + random.below(2) {
+        text = match random.below(10) {
+            0 => change_bytes(random, text),
+            1 if random.once_in(4) => grow(random, &text),
+            _ => change_fields(random, &text),
+        };
+    }
+    text
+}
+
+fn change_bytes(random: &mut Random, mut text: Vec<u8>) -> Vec<u8> {
+    let at = random.below(text.len() + 1);
+    let byte = match random.below(3) {
+        0 => random.pick(b"\t\n\r,-019 apANFC\0\xFF"),
+        _ => random.next() as u8,
+    };
+    match random.below(4) {
+        0 => text.insert(at, byte),
+        1 => text.truncate(at),
+        2 if at < text.len() => drop(text.remove(at)),
+        _ if at < text.len() => text[at] = byte,
+        _ => drop(text.pop()),
+    }
+    text
+}
+
+fn change_fields(random: &mut Random, text: &[u8]) -> Vec<u8> {
+    let Ok(written) = str::from_utf8(text) else { return text.to_vec() };
+    let mut lines: Fields =
+        written.lines().map(|line| line.split('\t').map(String::from).collect()).collect();
+    if lines.is_empty() {
+        return b"C\t-\t-\n".to_vec();
+    }
+    match random.below(16) {
+        0 => change_lines(random, &mut lines),
+        1 => change_any_field(random, &mut lines),
+        6 => repeat_formula(random, &mut lines),
+        2 => change_row(random, &mut lines, change_rule),
+        3 => change_row(random, &mut lines, change_premises),
+        4 => change_row(random, &mut lines, change_principal),
+        5 | 7 => change_last_row_and_claim(random, &mut lines),
+        _ => change_row(random, &mut lines, change_side),
+    }
+    lines.iter().map(|fields| fields.join("\t") + "\n").collect::<String>().into_bytes()
+}
+
+fn change_lines(random: &mut Random, lines: &mut Fields) {
+    let (at, other) = (random.below(lines.len()), random.below(lines.len()));
+    match random.below(4) {
+        0 => drop(lines.remove(at)),
+        1 => lines.swap(at, other),
+        2 => lines.insert(other, lines[at].clone()),
+        _ => lines.push(lines[at].clone()),
+    }
+}
+
+/// Gives one formula the word and operands of another.
+fn repeat_formula(random: &mut Random, lines: &mut Fields) {
+    let formulas: Vec<usize> = (0..lines.len()).filter(|&k| lines[k][0] == "F").collect();
+    if !formulas.is_empty() {
+        let (from, to) = (random.pick(&formulas), random.pick(&formulas));
+        let number = lines[to].get(1).cloned().unwrap_or_default();
+        lines[to] = lines[from].clone();
+        lines[to][1] = number;
+    }
+}
+
+fn change_any_field(random: &mut Random, lines: &mut Fields) {
+    let line = random.below(lines.len());
+    let fields = &mut lines[line];
+    let at = random.below(fields.len());
+    match random.below(5) {
+        0 => drop(fields.remove(at)),
+        1 => fields.insert(at, "-".into()),
+        2 => {
+            let next = (at + 1) % fields.len();
+            fields.swap(at, next);
+        }
+        _ => fields[at] = number(random),
+    }
+}
+
+fn number(random: &mut Random) -> String {
+    let special = ["0", "1", "2", "-", "00", "01", "63", "64", "65535", "65536", "65537", "99999", "100000", "p", ""];
+    match random.below(2) {
+        0 => special[random.below(special.len())].into(),
+        _ => random.below(30).to_string(),
+    }
+}
+
+/// Changes one row, of seven fields, if there is one; often one of the last, on which
+/// no other rows rest.
+fn change_row(random: &mut Random, lines: &mut Fields, change: fn(&mut Random, &mut [String], usize)) {
+    let formulas = lines.iter().filter(|fields| fields[0] == "F").count();
+    let mut rows: Vec<usize> = (0..lines.len()).rev().filter(|&k| is_row(&lines[k])).collect();
+    if random.once_in(2) {
+        rows.truncate(4);
+    }
+    if !rows.is_empty() {
+        let row = random.pick(&rows);
+        change(random, &mut lines[row], formulas);
+    }
+}
+
+fn is_row(fields: &[String]) -> bool {
+    fields[0] == "N" && fields.len() == 7
+}
+
+fn change_rule(random: &mut Random, row: &mut [String], _: usize) {
+    row[2] = ELK.rules[random.below(ELK.rules.len())].name.into();
+}
+
+fn change_principal(random: &mut Random, row: &mut [String], formulas: usize) {
+    row[3] = if random.once_in(4) { "-".into() } else { random.below(formulas + 1).to_string() };
+}
+
+fn change_premises(random: &mut Random, row: &mut [String], _: usize) {
+    let mut premises = numbers(&row[4]);
+    let some_row = random.below(row[1].parse::<usize>().unwrap_or(0) + 1);
+    match random.below(4) {
+        0 => premises.reverse(),
+        1 => premises.push(some_row),
+        2 => drop(premises.pop()),
+        _ => {
+            let count = premises.len().max(1);
+            premises.resize(count, some_row);
+            premises[random.below(count)] = some_row;
+        }
+    }
+    row[4] = list(&premises);
+}
+
+/// Puts a formula in or takes it out, mostly keeping the order.
+fn change_side(random: &mut Random, row: &mut [String], formulas: usize) {
+    let at = row.len() - 1 - random.below(2);
+    let mut side = numbers(&row[at]);
+    let beyond = usize::from(random.once_in(20));
+    let formula = random.below(formulas.max(1) + beyond);
+    match side.iter().position(|&held| held == formula) {
+        Some(place) => drop(side.remove(place)),
+        None => side.push(formula),
+    }
+    if !random.once_in(20) {
+        side.sort();
+    }
+    row[at] = list(&side);
+}
+
+/// Changes a side of the last row and claims what it then says.
+fn change_last_row_and_claim(random: &mut Random, lines: &mut Fields) {
+    let formulas = lines.iter().filter(|fields| fields[0] == "F").count();
+    let [.., row, claim] = &mut lines[..] else { return };
+    if is_row(row) {
+        change_side(random, row, formulas);
+        *claim = vec!["C".into(), row[5].clone(), row[6].clone()];
+    }
+}
+
+fn numbers(field: &str) -> Vec<usize> {
+    field.split(',').filter_map(|number| number.parse().ok()).collect()
+}
+
+/// More lines of one kind, up to a limit, and often one over it.
+fn grow(random: &mut Random, text: &[u8]) -> Vec<u8> {
+    let Ok(written) = str::from_utf8(text) else { return text.to_vec() };
+    let (kind, most) = random.pick(&[("A", 64), ("F", 1_024), ("N", 2_048)]);
+    let most = most + random.below(2);
+    let lines: Vec<&str> = written.lines().collect();
+    let Some(last) = lines.iter().rposition(|line| line.starts_with(kind)) else { return text.to_vec() };
+    let held = lines.iter().filter(|line| line.starts_with(kind)).count();
+    let more = (held..most).map(|k| match kind {
+        "A" => format!("A\t{k}\tmore_{k}"),
+        "F" => format!("F\t{k}\tnot\t{}\t-", k - 1),
+        _ => {
+            let fields: Vec<&str> = lines[last].split('\t').skip(2).collect();
+            format!("N\t{k}\t{}", fields.join("\t"))
+        }
+    });
+    let (before, after) = lines.split_at(last + 1);
+    let grown = before.iter().map(|line| line.to_string()).chain(more);
+    grown.chain(after.iter().map(|line| line.to_string())).map(|line| line + "\n").collect::<String>().into_bytes()
+}
