@@ -1,10 +1,10 @@
 -- The law of common sets: when some sides are one set, each with something of its own added. It decides L and R of a
 -- rule without a search: the intersection of the sides will do if any set does.
-use mathlib.Core.Path.{_≡_, refl, sym}
+use mathlib.Core.Path.{_≡_, refl, sym, subst}
 use mathlib.Core.List.{List, [], _∷_, _++_, List·Memᴰ·not-nil, List·Memᴰ·head, List·Memᴰ·tail, List·Memᴰ·cases-cons, List·Memᴰ·append-cases, Memᴰ·append-left, Memᴰ·append-right}
 use mathlib.Core.Logic.{⊎-elim, _↔_}
 use Rattle.equilibrium.specs.Meaning.{_∈_, _⊆_, _≈_}
-use Rattle.equilibrium.proofs.Sets.{dec-not, dec-and, dec-implies, dec-map, dec-in, dec-part, dec-all, those, in-those}
+use Rattle.equilibrium.proofs.Sets.{dec-not, dec-and, dec-implies, dec-in, dec-part, dec-all, those, in-those}
 
 -- a side, and what is to be added to the common set to give it
 pub record Side (X : Type 0) : Type 0 where
@@ -28,12 +28,16 @@ module _ {X : Type 0} where
   abbrev pub Shared : List (Side X) → Type 0
   Shared sides = (s : Side X) → s ∈ sides → (s .added ⊆ s .whole) × ((t : Side X) → t ∈ sides → Passes s t)
 
+  -- what every member has, the first and the rest have
+  pub every-cons : {P : X → Type 0} {x : X} {xs : List X} → ((y : X) → y ∈ x ∷ xs → P y) ↔ (P x × ((y : X) → y ∈ xs → P y))
+  every-cons {P} {x} = (λ f. (f x (List·Memᴰ·head refl), λ y m. f y (List·Memᴰ·tail m)), λ h y m. ⊎-elim (λ (e : y ≡ x). subst P (sym e) (h .0)) (h .1 y) (List·Memᴰ·cases-cons m))
+
 module _ {X : Type 0} (_≟_ : Discrete X) where
   intersection : List (Side X) → List X
   intersection [] = []
   intersection (s ∷ sides) = those (λ x. dec-all (λ t. dec-in _≟_ x (t .whole)) (s ∷ sides)) (s .whole)
 
-  -- of some sides the intersection holds exactly what all of them hold
+  -- the intersection holds exactly what all sides hold, if there is a side
   in-intersection : (sides : List (Side X)) {s : Side X} → s ∈ sides → (x : X) → (x ∈ intersection sides) ↔ ((t : Side X) → t ∈ sides → x ∈ t .whole)
   unfolding intersection
   in-intersection [] m x = absurd (List·Memᴰ·not-nil m)
@@ -41,11 +45,17 @@ module _ {X : Type 0} (_≟_ : Discrete X) where
 
   -- a common set exists exactly if each side holds what is added and all sides hold what one has besides
   pub common-iff : (sides : List (Side X)) → ((L : List X) × Common sides L) ↔ Shared sides
-  common-iff sides = (λ c s m. (λ x a. c .1 s m .1 x (Memᴰ·append-left (c .0) a), λ t k x w n. c .1 t k .1 x (Memᴰ·append-right (t .added) (⊎-elim (λ a. absurd (n a)) (λ l. l) (List·Memᴰ·append-cases (s .added) (c .1 s m .0 x w))))), λ f. (intersection sides, λ s m. (λ x w. place f m x w (dec-in _≟_ x (s .added)), λ x k. ⊎-elim (f s m .0 x) (λ i. in-intersection sides m x .0 i s m) (List·Memᴰ·append-cases (s .added) k))))
+  common-iff sides = (to, λ f. (intersection sides, from f))
     where
+      to : (L : List X) × Common sides L → Shared sides
+      to (L, c) s m = (λ x a. c s m .1 x (Memᴰ·append-left L a), λ t k x w n. c t k .1 x (Memᴰ·append-right (t .added) (⊎-elim (λ a. absurd (n a)) (λ l. l) (List·Memᴰ·append-cases (s .added) (c s m .0 x w)))))
+
       place : Shared sides → {s : Side X} → s ∈ sides → (x : X) → x ∈ s .whole → Dec (x ∈ s .added) → x ∈ s .added ++ intersection sides
       place f m x w (yes a) = Memᴰ·append-left (intersection sides) a
       place f {s} m x w (no n) = Memᴰ·append-right (s .added) (in-intersection sides m x .1 (λ t k. f s m .1 t k x w n))
+
+      from : Shared sides → Common sides (intersection sides)
+      from f s m = (λ x w. place f m x w (dec-in _≟_ x (s .added)), λ x k. ⊎-elim (f s m .0 x) (λ i. in-intersection sides m x .0 i s m) (List·Memᴰ·append-cases (s .added) k))
 
   unfoldable pub shared? : (sides : List (Side X)) → Dec (Shared sides)
   unfolding dec-all dec-and dec-part dec-implies dec-not dec-in

@@ -11,11 +11,11 @@ use Rattle.equilibrium.proofs.Sets.{dec-not, dec-and, dec-implies, dec-map, dec
 use Rattle.equilibrium.proofs.Satisfaction.{occurs}
 use Rattle.elk.specs.Sequent.{Kind, elk, refutation, Sequent, _⇒_, _⨾_, Same}
 use Rattle.elk.specs.Rules.{Rule, Fits, Added, Schema, Entry, schema, default, cut, unstable, initial, entry}
-use Rattle.elk.specs.Instance.{meant, SchemaInstance, DefaultInstance, CutInstance, UnstableInstance, InitialInstance, LeftLiteral, left-atom, left-negated, left-verum, RightLiteral, right-atom, right-negated, right-falsum, Choice, domain, chosen, literal, fixed, excluded-middle, joined, Rising, InstanceOf, Instance}
+use Rattle.elk.specs.Instance.{meant, SchemaInstance, DefaultInstance, CutInstance, UnstableInstance, InitialInstance, LeftLiteral, left-atom, left-negated, left-verum, RightLiteral, right-atom, right-negated, right-falsum, domain, chosen, literal, fixed, excluded-middle, joined, Rising, InstanceOf, Instance}
 use Rattle.elk.proofs.Equality.{formula-discrete, kind-discrete}
 use Rattle.elk.proofs.CommonSets.{shared?}
 use Rattle.elk.proofs.Parts.{fits?}
-use Rattle.elk.proofs.Entries.{Counted, lefts, rights, SchemaTest, schema-iff, DefaultTest, default-iff, cutLefts, CutTest, cut-iff, InitialTest, initial-iff, choiceOf, UnstableTest, unstable-iff}
+use Rattle.elk.proofs.Entries.{Counted, lefts, rights, schema-iff, default-iff, cutLefts, cut-iff, initial-iff, choiceOf, unstable-iff}
 
 unfoldable pub same? : (s t : Sequent) → Dec (Same s t)
 unfolding dec-map dec-and dec-same kind-discrete formula-discrete

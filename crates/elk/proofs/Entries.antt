@@ -1,5 +1,5 @@
--- Each of the five kinds of rule characterised on the sides of the row and its premises alone, with no set to be found.
--- What decides an instance, and what a running test of rows is held to.
+-- Each of the five entries of the table characterised by tests on the row and its premises, with no set to be found. The
+-- decision of an instance rests on these laws, and so may any running test of rows.
 use Prim.Native.Nat.{ℕ}
 use mathlib.Core.Path.{_≡_, refl, sym, _∙_, ap, ap₂, subst}
 use mathlib.Core.Bool.{Bool, true, false}
@@ -13,8 +13,8 @@ use Rattle.elk.specs.Sequent.{Kind, elk, refutation, Sequent, _⇒_, _�
 use Rattle.elk.specs.Rules.{Fits, Part, Added, Schema}
 use Rattle.elk.specs.Instance.{meant, filled, SchemaInstance, DefaultInstance, CutInstance, InitialInstance, LeftLiteral, RightLiteral, UnstableInstance, Choice, domain, chosen, literal, fixed, excluded-middle, joined, Rising}
 use Rattle.elk.proofs.Equality.{formula-discrete}
-use Rattle.elk.proofs.CommonSets.{Side, Common, Shared, common-iff}
-use Rattle.elk.proofs.Parts.{operands, fits-parts}
+use Rattle.elk.proofs.CommonSets.{Side, Common, Shared, every-cons, common-iff}
+use Rattle.elk.proofs.Parts.{fits-parts}
 
 -- as many rows as the rule has, each of its kind
 abbrev pub Counted : Kind → List Sequent → List Added → Type 0
@@ -36,9 +36,6 @@ module _ (m : Part → Formula) where
   abbrev pub rights : List Sequent → List Added → List (Side Formula)
   rights = sides (λ s. s .right) (λ d. map m (d .right))
 
-every-cons : {X : Type 0} {P : X → Type 0} {x : X} {xs : List X} → ((y : X) → y ∈ x ∷ xs → P y) ↔ (P x × ((y : X) → y ∈ xs → P y))
-every-cons {P} {x} = (λ f. (f x (List·Memᴰ·head refl), λ y m. f y (List·Memᴰ·tail m)), λ h y m. ⊎-elim (λ (e : y ≡ x). subst P (sym e) (h .0)) (h .1 y) (List·Memᴰ·cases-cons m))
-
 -- rows are L and R filled in if they are as many, of the kind, and L and R are common to their sides
 filled-iff : (m : Part → Formula) {L R : List Formula} (k : Kind) (ss : List Sequent) (ds : List Added) → AllSame ss (map (filled m L R k) ds) ↔ (Counted k ss ds × Common (lefts m ss ds) L × Common (rights m ss ds) R)
 filled-iff m k [] [] = (λ h. (tt, (λ s i. absurd (List·Memᴰ·not-nil i)), λ s i. absurd (List·Memᴰ·not-nil i)), λ h. tt)
@@ -48,12 +45,13 @@ filled-iff m k (s ∷ ss) (d ∷ ds) =
     let rest = filled-iff m k ss ds in
     (λ h. let r = rest .0 (h .1) in ((h .0 .kind, r .0), every-cons .1 (h .0 .left, r .1), every-cons .1 (h .0 .right, r .2)), λ h. (record { kind = h .0 .0; left = every-cons .0 (h .1) .0; right = every-cons .0 (h .2) .0 }, rest .1 (h .0 .1, every-cons .0 (h .1) .1, every-cons .0 (h .2) .1)))
 
--- a rule of the table, on the row and its premises: where `m` is what its parts mean
+-- a rule that adds to L and R, tested on the row and its premises; `m` is what its parts mean
 pub record SchemaTest (t : Schema) (m : Part → Formula) (premises : List Sequent) (conclusion : Sequent) : Type 0 where
   pub counted : Counted (t .kind) (conclusion ∷ premises) (t .conclusion ∷ t .premises)
   pub left : Shared (lefts m (conclusion ∷ premises) (t .conclusion ∷ t .premises))
   pub right : Shared (rights m (conclusion ∷ premises) (t .conclusion ∷ t .premises))
 
+-- where the principal formula has the parts G and H, the test is exact
 pub schema-iff : {t : Schema} {F G H : Formula} {premises : List Sequent} {conclusion : Sequent} → Fits (t .form) F G H → SchemaInstance t F premises conclusion ↔ SchemaTest t (meant F G H) premises conclusion
 schema-iff {t} {F} {G} {H} {premises} {conclusion} f = (to, from)
   where
@@ -72,7 +70,7 @@ schema-iff {t} {F} {G} {H} {premises} {conclusion} f = (to, from)
         let h = filled-iff (meant F G H) (t .kind) (conclusion ∷ premises) (t .conclusion ∷ t .premises) .1 (k .counted, l .1, r .1) in
         record { first = G; second = H; fits = f; L = l .0; R = r .0; above = h .1; below = h .0 }
 
--- `def`, on the row
+-- `def`, tested on the row
 pub record DefaultTest (F : Formula) (conclusion : Sequent) : Type 0 where
   pub p : ℕ
   pub principal : F ≡ neg (atom p)
@@ -107,7 +105,7 @@ default-iff {F} {s} = (
 abbrev pub cutLefts : Formula → Sequent → Sequent → Sequent → List (Side Formula)
 cutLefts F first second conclusion = record { whole = conclusion .left; added = [] } ∷ record { whole = first .left; added = [] } ∷ record { whole = second .left; added = F ∷ [] } ∷ []
 
--- `rcut`, on the row and its two premises
+-- `rcut`, tested on the row and its two premises
 pub record CutTest (F : Formula) (first second conclusion : Sequent) : Type 0 where
   pub kinds : (first .kind ≡ elk) × ((second .kind ≡ elk) × (conclusion .kind ≡ elk))
   pub left : Shared (cutLefts F first second conclusion)
@@ -157,7 +155,7 @@ cut-iff {F} {s} {t} {u} = (to, from)
         place G j (yes e) = List·Memᴰ·head e
         place G j (no n) = List·Memᴰ·tail (in-R G .1 (j, k .first-right G j n))
 
--- `xini`, on the row
+-- `xini`, tested on the row
 pub record InitialTest (s : Sequent) : Type 0 where
   pub kind : s .kind ≡ refutation
   pub lefts : (F : Formula) → F ∈ s .left → LeftLiteral F
@@ -199,7 +197,7 @@ abbrev pub choiceOf : List Formula → Choice
 choiceOf [] = []
 choiceOf (F ∷ Fs) = literals F
 
--- K makes no other choice
+-- whatever the choice, it is read off its K again
 choice-unique : (c : Choice) (Fs : List Formula) → Fs ≈ (joined (map literal c) ∷ []) → choiceOf Fs ≡ c
 choice-unique c [] e = absurd (List·Memᴰ·not-nil (e .1 _ (List·Memᴰ·head refl)))
 choice-unique c (F ∷ Fs) e = ap literals (List·Memᴰ·eq-of-singleton (e .0 F (List·Memᴰ·head refl))) ∙ literals-joined c
@@ -211,7 +209,7 @@ atoms-part {L = A ∷ L} s p m = ⊎-elim (occurs (s A (List·Memᴰ·head refl)
 append-part : {L M : List Formula} (K : List Formula) → L ⊆ M → K ++ L ⊆ K ++ M
 append-part {M} K s F m = ⊎-elim (Memᴰ·append-left M) (λ k. Memᴰ·append-right K (s F k)) (List·Memᴰ·append-cases K m)
 
--- `unst` with S and S' as in the choice, on the row and its two premises
+-- `unst` with S and S' as in the choice, tested on the row and its two premises
 pub record UnstableTest (c : Choice) (first second conclusion : Sequent) : Type 0 where
   pub kind : conclusion .kind ≡ elk
   pub rising : Rising (domain c)
@@ -221,6 +219,7 @@ pub record UnstableTest (c : Choice) (first second conclusion : Sequent) : Type 
   pub derived : Same first (conclusion .left ⇒ joined (map literal c) ∷ [])
   pub refuted : Same second (map fixed c ++ conclusion .left ⨾ joined (map excluded-middle (chosen c)) ∷ [])
 
+-- no choice but the one that is read off K can make the row an instance
 pub unstable-iff : {s t u : Sequent} → UnstableInstance (s ∷ t ∷ []) u ↔ UnstableTest (choiceOf (s .right)) s t u
 unstable-iff {s} {t} {u} = (to, λ k. record { L = u .left; R = u .right; choice = choiceOf (s .right); rising = k .rising; atoms = k .atoms; member = k .member; not-empty = k .not-empty; above = (k .derived, (k .refuted, tt)); below = record { kind = k .kind; left = ≈-refl; right = ≈-refl } })
   where

@@ -16,3 +16,5 @@ pub mod CommonSets
 pub mod Parts
 pub mod Entries
 pub mod Decision
+pub mod Rows
+pub mod Faithful

@@ -1,7 +1,6 @@
 -- The form of a principal formula: the formula has at most one pair of parts, which is read off it, and whether it is
 -- of the form is decided by building it again from them.
 use mathlib.Core.Path.{_≡_, refl, sym, subst}
-use mathlib.Core.Logic.{_↔_}
 use Rattle.equilibrium.specs.Formula.{Formula, falsum, atom, neg, conj, disj, imp}
 use Rattle.equilibrium.proofs.Sets.{dec-map}
 use Rattle.elk.specs.Rules.{Form, any, falsity, negation, conjunction, disjunction, implication, double-negation, negated-conjunction, negated-disjunction, negated-implication, Fits, is-any, is-falsity, is-negation, is-conjunction, is-disjunction, is-implication, is-double-negation, is-negated-conjunction, is-negated-disjunction, is-negated-implication}
