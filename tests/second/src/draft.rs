@@ -68,10 +68,6 @@ impl Draft {
     /// The text whose claim is the last row's sides.
     pub fn text(&self) -> Vec<u8> {
         let claim = self.rows.last().map(|row| row.sequent.clone()).unwrap_or_default();
-        self.text_claiming(&claim)
-    }
-
-    pub fn text_claiming(&self, claim: &Sequent) -> Vec<u8> {
         let numbers: HashMap<Formula, usize> = self.listed.iter().enumerate().map(|(k, &f)| (f, k)).collect();
         let mut text = String::new();
         let mut line = |fields: &[String]| {

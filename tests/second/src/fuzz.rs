@@ -81,7 +81,12 @@ impl Report {
         }
     }
 
-    fn accepted(&mut self, text: &[u8], judgement: &Judgement, derivation: &Derivation) -> Result<(), String> {
+    fn accepted(
+        &mut self,
+        text: &[u8],
+        judgement: &Judgement,
+        derivation: &Derivation,
+    ) -> Result<(), String> {
         for row in used_records(&judgement.tables.rows, judgement.used.rows, 8) {
             *self.accepted.entry(row[0] as usize).or_default() += 1;
         }
@@ -109,7 +114,8 @@ impl Report {
             let code = ELK.code(&String::from_utf8_lossy(rule)).expect("a known rule");
             *self.wrong.entry(code).or_default() += 1;
         }
-        let zero = judgement.tables.clone().listed().iter().all(|(_, table)| table.iter().all(|&entry| entry == 0));
+        let zero =
+            judgement.tables.clone().listed().iter().all(|(_, table)| table.iter().all(|&entry| entry == 0));
         if zero { Ok(()) } else { Err("tables that aren't zero after a refusal".into()) }
     }
 }
@@ -149,7 +155,11 @@ fn rebuilt(text: &[u8], judgement: &Judgement) -> Vec<u8> {
     for (k, record) in used_records(&tables.rows, used.rows, 8).enumerate() {
         let premises: Vec<usize> =
             record[2..4].iter().filter(|&&entry| entry != 65_535).map(|&entry| entry as usize).collect();
-        claim = format!("{}\t{}", side(&tables.left, record[4], record[5]), side(&tables.right, record[6], record[7]));
+        claim = format!(
+            "{}\t{}",
+            side(&tables.left, record[4], record[5]),
+            side(&tables.right, record[6], record[7])
+        );
         let rule = ELK.rules[record[0] as usize].name;
         lines.push(format!("N\t{k}\t{rule}\t{}\t{}\t{claim}", optional(record[1]), list(&premises)));
     }

@@ -33,7 +33,7 @@ pub fn derivation(random: &mut Random) -> Draft {
             (0..count).map(|_| formula(random, &mut formulas, atoms, 3)).collect()
         };
         let goal = Sequent { antecedent: side(3), succedent: side(2) };
-        let mut prover = Prover::new(formulas, Random::new(random.next()));
+        let mut prover = Prover::new(formulas, Random::new(random.word()));
         let unstable = if random.once_in(2) { prover.prove_unstable(&goal) } else { None };
         let last = unstable.or_else(|| prover.prove(&goal))?;
         prover.rows.truncate(last + 1);
@@ -54,7 +54,7 @@ fn unstable(random: &mut Random, atoms: &[u16]) -> Option<Prover> {
     let count = 1 + random.below(3);
     let antecedent = (0..count).map(|_| formula(random, &mut formulas, atoms, 2)).collect();
     let succedent = (0..random.below(2)).map(|_| formula(random, &mut formulas, atoms, 2)).collect();
-    let mut prover = Prover::new(formulas, Random::new(random.next()));
+    let mut prover = Prover::new(formulas, Random::new(random.word()));
     let last = prover.prove_unstable(&Sequent { antecedent, succedent })?;
     prover.rows.truncate(last + 1);
     Some(prover)
@@ -81,13 +81,15 @@ fn general(random: &mut Random, atoms: &[u16], rule: &Rule) -> Option<Prover> {
         }
         sets.insert(name, set);
     }
-    let mut prover = Prover::new(formulas, Random::new(random.next()));
+    let mut prover = Prover::new(formulas, Random::new(random.word()));
     let mut premises = vec![];
     for scheme in &rule.premises {
         let sequent = ELK.sequent(&mut prover.formulas, scheme, &bindings, &sets);
         premises.push(match scheme.kind {
             Kind::Elk => prover.push(same(common, sequent)),
-            Kind::Refutation if pair.refutes(&prover.formulas, &sequent) => prover.refute_at(&sequent, &mut pair),
+            Kind::Refutation if pair.refutes(&prover.formulas, &sequent) => {
+                prover.refute_at(&sequent, &mut pair)
+            }
             Kind::Refutation => return None,
         });
     }
@@ -199,7 +201,7 @@ pub fn walk(random: &mut Random) -> Draft {
         let mut formulas = Formulas::default();
         let mut pool = literals(&mut formulas, &atoms[..atoms.len().min(2)]);
         pool.extend((0..6).map(|_| formula(random, &mut formulas, atoms, 2)));
-        let mut prover = Prover::new(formulas, Random::new(random.next()));
+        let mut prover = Prover::new(formulas, Random::new(random.word()));
         for _ in 0..400 {
             let rule = random.below(ELK.rules.len());
             if let Some(row) = forward(random, &mut prover, &pool, &ELK.rules[rule]) {
@@ -216,7 +218,8 @@ pub fn walk(random: &mut Random) -> Draft {
 fn forward(random: &mut Random, prover: &mut Prover, pool: &[Formula], rule: &Rule) -> Option<DraftRow> {
     let mut premises = vec![];
     for scheme in &rule.premises {
-        let fit: Vec<usize> = (0..prover.rows.len()).filter(|&k| prover.rows[k].kind() == scheme.kind).collect();
+        let fit: Vec<usize> =
+            (0..prover.rows.len()).filter(|&k| prover.rows[k].kind() == scheme.kind).collect();
         premises.push(*fit.get(random.below(fit.len().max(1)))?);
     }
     let principal = rule.principal.map(|_| random.pick(pool));
@@ -226,7 +229,12 @@ fn forward(random: &mut Random, prover: &mut Prover, pool: &[Formula], rule: &Ru
     let sequents = premises.iter().map(|&k| &prover.rows[k].sequent).collect();
     let step = Step { rule, principal, premises: sequents, conclusion: &sequent };
     let fits = by_algebra(&ELK, &mut prover.formulas, &step);
-    fits.then(|| DraftRow { rule: ELK.code(rule.name).expect("a rule of the table"), principal, premises, sequent })
+    fits.then(|| DraftRow {
+        rule: ELK.code(rule.name).expect("a rule of the table"),
+        principal,
+        premises,
+        sequent,
+    })
 }
 
 /// For each set of a rule: what all premises with it have in common, less some of the
@@ -240,14 +248,15 @@ fn sets_between(
     premises: &[usize],
 ) -> Sets {
     let mut sets = Sets::new();
-    let mut narrow = |formulas: &mut Formulas, random: &mut Random, scheme: &SideScheme, side: &FormulaSet| {
-        let added = ELK.named(formulas, scheme, bindings);
-        let dropped: FormulaSet = random.some_of(added);
-        for &name in &scheme.sets {
-            let set = sets.entry(name).or_insert_with(|| side.clone());
-            set.retain(|f| side.contains(f) && !dropped.contains(f));
-        }
-    };
+    let mut narrow =
+        |formulas: &mut Formulas, random: &mut Random, scheme: &SideScheme, side: &FormulaSet| {
+            let added = ELK.named(formulas, scheme, bindings);
+            let dropped: FormulaSet = random.some_of(added);
+            for &name in &scheme.sets {
+                let set = sets.entry(name).or_insert_with(|| side.clone());
+                set.retain(|f| side.contains(f) && !dropped.contains(f));
+            }
+        };
     for (scheme, &k) in rule.premises.iter().zip(premises) {
         let Sequent { antecedent, succedent } = prover.rows[k].sequent.clone();
         narrow(&mut prover.formulas, random, &scheme.antecedent, &antecedent);

@@ -111,13 +111,16 @@ struct Problem<'a> {
 }
 
 impl<'a> Problem<'a> {
-    fn of(calculus: &Calculus, formulas: &mut Formulas, step: &Step<'a>, bindings: &Bindings, given: &Sets) -> Self {
+    fn of(
+        calculus: &Calculus,
+        formulas: &mut Formulas,
+        step: &Step<'a>,
+        bindings: &Bindings,
+        given: &Sets,
+    ) -> Self {
         let mut equation = |scheme: &SideScheme, side: &'a FormulaSet| {
-            let mut equation = Equation {
-                unknowns: vec![],
-                given: calculus.named(formulas, scheme, bindings),
-                side,
-            };
+            let mut equation =
+                Equation { unknowns: vec![], given: calculus.named(formulas, scheme, bindings), side };
             for &name in &scheme.sets {
                 match given.get(&name) {
                     Some(set) => equation.given.extend(set),
@@ -156,7 +159,8 @@ const MOST_SEARCHED: usize = 14;
 /// Every choice of the unknown sets, out of the formulas on the sides, that solves
 /// all equations. Sets of formulas are bit sets here.
 fn all_solutions(equations: &[Equation]) -> Option<Vec<Sets>> {
-    let universe: FormulaSet = equations.iter().flat_map(|e| e.side.iter().chain(&e.given).copied()).collect();
+    let universe: FormulaSet =
+        equations.iter().flat_map(|e| e.side.iter().chain(&e.given).copied()).collect();
     let universe: Vec<Formula> = universe.into_iter().collect();
     let mut unknowns: Vec<SetName> = equations.iter().flat_map(|e| e.unknowns.clone()).collect();
     unknowns.sort();
@@ -221,11 +225,10 @@ fn join(formulas: &mut Formulas, list: &[Formula]) -> Formula {
     others.iter().rfold(last, |rest, &first| formulas.keep(Node::And(first, rest)))
 }
 
-/// S, read off the first premise's succedent; None if that is no K with an S that
-/// isn't empty.
+/// S, read off a formula of the first premise's succedent; None if that is no K with
+/// an S that isn't empty. That K stands alone is left to the equations.
 fn chosen_atoms(formulas: &Formulas, step: &Step) -> Option<Atoms> {
-    let succedent = &step.premises[0].succedent;
-    let mut rest = *succedent.first().filter(|_| succedent.len() == 1)?;
+    let mut rest = *step.premises[0].succedent.first()?;
     let atoms: Vec<u16> = rising(formulas.atoms_of(&step.conclusion.antecedent)).collect();
     let mut chosen = 0;
     for (place, &k) in atoms.iter().enumerate() {
@@ -288,7 +291,11 @@ mod tests {
                     loose.disturb(&mut random);
                 }
             }
-            assert!(held > 100 && failed > 100 && searched > 1000, "{}: {held} {failed} {searched}", rule.name);
+            assert!(
+                held > 100 && failed > 100 && searched > 1000,
+                "{}: {held} {failed} {searched}",
+                rule.name
+            );
         }
     }
 
@@ -306,7 +313,8 @@ mod tests {
                 let mut formulas = loose.formulas.clone();
                 let is_instance = by_algebra(&ELK, &mut formulas, &loose.step(rule));
                 let mut premises = rule.premises.iter().zip(&loose.premises);
-                if is_instance && premises.all(|(scheme, premise)| true_row(&formulas, scheme.kind, premise)) {
+                if is_instance && premises.all(|(scheme, premise)| true_row(&formulas, scheme.kind, premise))
+                {
                     true_premises += 1;
                     assert!(true_row(&formulas, rule.conclusion.kind, &loose.conclusion), "{}", rule.name);
                 }

@@ -137,7 +137,11 @@ pub fn judge_closely<'t>(
 
 type Accepted<'t> = (usize, Checker<'t>, Sequent);
 
-fn accepted<'t>(text: &'t [u8], lent: &Tables<usize>, deciding: Deciding<'t>) -> Result<Accepted<'t>, (Refusal, usize)> {
+fn accepted<'t>(
+    text: &'t [u8],
+    lent: &Tables<usize>,
+    deciding: Deciding<'t>,
+) -> Result<Accepted<'t>, (Refusal, usize)> {
     if lent.clone().zip(LEAST).listed().iter().any(|(_, (length, least))| length < least) {
         return Err((Refusal::ShortTable, 0));
     }
@@ -392,7 +396,8 @@ mod tests {
         let judgement = judge(text, lent);
         let lengths = judgement.tables.clone().map(|table| table.len());
         assert_eq!(lengths, *lent);
-        let refused_and_not_zero = |(_, table): &(_, Vec<u16>)| judgement.number != 0 && table.iter().any(|&e| e != 0);
+        let refused_and_not_zero =
+            |(_, table): &(_, Vec<u16>)| judgement.number != 0 && table.iter().any(|&e| e != 0);
         assert!(!judgement.tables.clone().listed().iter().any(refused_and_not_zero));
         (judgement.number, judgement.line)
     }
@@ -428,7 +433,8 @@ mod tests {
     fn a_table_one_short_is_refused_first() {
         for table in 0..5 {
             let mut lent = LEAST;
-            let lengths = [&mut lent.names, &mut lent.formulas, &mut lent.rows, &mut lent.left, &mut lent.right];
+            let lengths =
+                [&mut lent.names, &mut lent.formulas, &mut lent.rows, &mut lent.left, &mut lent.right];
             *lengths.into_iter().nth(table).unwrap() -= 1;
             assert_eq!(answer(WHOLE_FILE.as_bytes(), &lent), (1, 0));
             assert_eq!(answer(b"", &lent), (1, 0));

@@ -25,7 +25,7 @@ fn change_bytes(random: &mut Random, mut text: Vec<u8>) -> Vec<u8> {
     let at = random.below(text.len() + 1);
     let byte = match random.below(3) {
         0 => random.pick(b"\t\n\r,-019 apANFC\0\xFF"),
-        _ => random.next() as u8,
+        _ => random.word() as u8,
     };
     match random.below(4) {
         0 => text.insert(at, byte),
@@ -69,12 +69,12 @@ fn change_lines(random: &mut Random, lines: &mut Fields) {
 
 /// Gives one formula the word and operands of another.
 fn repeat_formula(random: &mut Random, lines: &mut Fields) {
-    let formulas: Vec<usize> = (0..lines.len()).filter(|&k| lines[k][0] == "F").collect();
+    let is_formula = |fields: &[String]| fields[0] == "F" && fields.len() == 5;
+    let formulas: Vec<usize> = (0..lines.len()).filter(|&k| is_formula(&lines[k])).collect();
     if !formulas.is_empty() {
         let (from, to) = (random.pick(&formulas), random.pick(&formulas));
-        let number = lines[to].get(1).cloned().unwrap_or_default();
-        lines[to] = lines[from].clone();
-        lines[to][1] = number;
+        let content = lines[from][2..].to_vec();
+        lines[to].splice(2.., content);
     }
 }
 
@@ -94,7 +94,8 @@ fn change_any_field(random: &mut Random, lines: &mut Fields) {
 }
 
 fn number(random: &mut Random) -> String {
-    let special = ["0", "1", "2", "-", "00", "01", "63", "64", "65535", "65536", "65537", "99999", "100000", "p", ""];
+    let special =
+        ["0", "1", "2", "-", "00", "01", "63", "64", "65535", "65536", "65537", "99999", "100000", "p", ""];
     match random.below(2) {
         0 => special[random.below(special.len())].into(),
         _ => random.below(30).to_string(),
@@ -191,5 +192,9 @@ fn grow(random: &mut Random, text: &[u8]) -> Vec<u8> {
     });
     let (before, after) = lines.split_at(last + 1);
     let grown = before.iter().map(|line| line.to_string()).chain(more);
-    grown.chain(after.iter().map(|line| line.to_string())).map(|line| line + "\n").collect::<String>().into_bytes()
+    grown
+        .chain(after.iter().map(|line| line.to_string()))
+        .map(|line| line + "\n")
+        .collect::<String>()
+        .into_bytes()
 }

@@ -6,11 +6,7 @@ use crate::formula::{Formula, FormulaSet, Formulas, Node};
 use crate::sequent::{Kind, Sequent};
 
 /// Reads one formula; `atom` gives each name its number.
-pub fn formula(
-    formulas: &mut Formulas,
-    text: &str,
-    atom: &mut dyn FnMut(&str) -> u16,
-) -> Formula {
+pub fn formula(formulas: &mut Formulas, text: &str, atom: &mut dyn FnMut(&str) -> u16) -> Formula {
     let mut reader = Reader { formulas, rest: text, atom };
     let formula = reader.implication();
     assert!(reader.rest.is_empty(), "not a formula: {text}");
@@ -18,11 +14,7 @@ pub fn formula(
 }
 
 /// Reads formulas parted by commas, or `-` for none.
-pub fn side(
-    formulas: &mut Formulas,
-    text: &str,
-    atom: &mut dyn FnMut(&str) -> u16,
-) -> FormulaSet {
+pub fn side(formulas: &mut Formulas, text: &str, atom: &mut dyn FnMut(&str) -> u16) -> FormulaSet {
     let written = text.split(',').filter(|_| text != "-");
     written.map(|part| formula(formulas, part, atom)).collect()
 }
@@ -36,11 +28,7 @@ pub fn sides(text: &str) -> (Kind, &str, &str) {
 }
 
 /// Reads a sequent.
-pub fn sequent(
-    formulas: &mut Formulas,
-    text: &str,
-    atom: &mut dyn FnMut(&str) -> u16,
-) -> (Kind, Sequent) {
+pub fn sequent(formulas: &mut Formulas, text: &str, atom: &mut dyn FnMut(&str) -> u16) -> (Kind, Sequent) {
     let (kind, left, right) = sides(text);
     let antecedent = side(formulas, left, atom);
     (kind, Sequent { antecedent, succedent: side(formulas, right, atom) })

@@ -10,8 +10,8 @@ use crate::formula::{Atoms, Formula, FormulaSet, Formulas, Node, rising, subsets
 use crate::instance::stability;
 use crate::random::Random;
 use crate::rules::{Bindings, ELK, Rule, SetName, Sets};
-use crate::sequent::{Kind, Sequent};
 use crate::semantics::{Interpretations, Pair};
+use crate::sequent::{Kind, Sequent};
 use std::collections::HashMap;
 
 pub struct Prover {
@@ -162,7 +162,13 @@ impl Prover {
     }
 
     /// left => right, where T satisfies `formula` on the right.
-    fn on_the_right(&mut self, left: &FormulaSet, right: &FormulaSet, formula: Formula, total: &mut Pair) -> usize {
+    fn on_the_right(
+        &mut self,
+        left: &FormulaSet,
+        right: &FormulaSet,
+        formula: Formula,
+        total: &mut Pair,
+    ) -> usize {
         let goal = sequent(left, right);
         let rest = self.rest_of(right, formula);
         let mut holds = |f| total.holds(&self.formulas, f);
@@ -201,7 +207,13 @@ impl Prover {
     }
 
     /// left => right, where T fails `formula` on the left.
-    fn on_the_left(&mut self, left: &FormulaSet, right: &FormulaSet, formula: Formula, total: &mut Pair) -> usize {
+    fn on_the_left(
+        &mut self,
+        left: &FormulaSet,
+        right: &FormulaSet,
+        formula: Formula,
+        total: &mut Pair,
+    ) -> usize {
         let goal = sequent(left, right);
         let rest = self.rest_of(left, formula);
         let mut holds = |f| total.holds(&self.formulas, f);
@@ -283,7 +295,8 @@ impl Prover {
         if !stands.contains(&principal) {
             return None;
         }
-        let mut sets = Sets::from([(SetName::L, goal.antecedent.clone()), (SetName::R, goal.succedent.clone())]);
+        let mut sets =
+            Sets::from([(SetName::L, goal.antecedent.clone()), (SetName::R, goal.succedent.clone())]);
         let side = if named.is_empty() { SetName::R } else { SetName::L };
         let kept = ELK.sequent(&mut self.formulas, &rule.premises[0], &bindings, &sets);
         if kept != *goal && self.random.once_in(6) {

@@ -174,7 +174,13 @@ impl Calculus {
     }
 
     /// The sequent that a scheme is for these formulas and sets.
-    pub fn sequent(&self, formulas: &mut Formulas, scheme: &Scheme, bindings: &Bindings, sets: &Sets) -> Sequent {
+    pub fn sequent(
+        &self,
+        formulas: &mut Formulas,
+        scheme: &Scheme,
+        bindings: &Bindings,
+        sets: &Sets,
+    ) -> Sequent {
         let mut side = |side: &SideScheme| {
             let mut members = self.named(formulas, side, bindings);
             for name in &side.sets {

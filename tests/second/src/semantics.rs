@@ -25,12 +25,6 @@ impl Pair {
         self.holds_here[formulas.place(formula)]
     }
 
-    /// Does the formula hold in (T,T)?
-    pub fn holds_there(&mut self, formulas: &Formulas, formula: Formula) -> bool {
-        self.cover(formulas);
-        self.holds_there[formulas.place(formula)]
-    }
-
     /// Does the pair satisfy every formula on the left and none on the right?
     pub fn refutes(&mut self, formulas: &Formulas, sequent: &Sequent) -> bool {
         sequent.antecedent.iter().all(|&f| self.holds(formulas, f))
@@ -195,7 +189,7 @@ mod tests {
         assert!(!Pair::new(0, 0b01).holds(&formulas, g));
         assert!(Pair::new(0, 0b11).holds(&formulas, f));
         assert!(!Pair::new(0b01, 0b11).holds(&formulas, f));
-        assert!(Pair::new(0b01, 0b11).holds_there(&formulas, f));
+        assert!(Pair::new(0b11, 0b11).holds(&formulas, f));
     }
 
     #[test]

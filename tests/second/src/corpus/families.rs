@@ -215,9 +215,8 @@ fn accepted(step: &Step) -> Vec<Case> {
     change("compound_parts", &|other| *other = step.renamed("(s|t)", "~t"));
     change("equal_parts", &|other| *other = step.renamed("p", "p"));
     change("parts_exchanged", &|other| *other = step.renamed("q", "p"));
-    let case = |(name, other): &(&str, Step)| {
-        rows::accepted(&format!("rule_{}/{name}", step.rule), &other.rows())
-    };
+    let case =
+        |(name, other): &(&str, Step)| rows::accepted(&format!("rule_{}/{name}", step.rule), &other.rows());
     changed.iter().filter_map(case).collect()
 }
 
@@ -322,7 +321,11 @@ fn wrong_premises(rule: &str, accepted: &str) -> Vec<Case> {
     refuse("with_one_more_refutation".into(), principal, &[&premises[..], &[refutation_row]].concat());
     if let Some((_, fewer)) = premises.split_last() {
         refuse("with_one_premise_fewer".into(), principal, fewer);
-        refuse("with_the_last_premise_twice".into(), principal, &[&premises[..], &premises[fewer.len()..]].concat());
+        refuse(
+            "with_the_last_premise_twice".into(),
+            principal,
+            &[&premises[..], &premises[fewer.len()..]].concat(),
+        );
         for k in 0..premises.len() {
             for (kind, row) in [("sequent", elk_row), ("refutation", refutation_row)] {
                 let mut others = premises.clone();

@@ -84,11 +84,23 @@ pub fn cases() -> Vec<Case> {
 
     let formulas = negations(MOST_ON_A_SIDE + 1);
     let over = up_to(MOST_ON_A_SIDE + 1);
-    limit("64_on_each_side", 0, formulas.clone() + &tabbed(&format!("N 0 same 0 - {all} {all} / C {all} {all}")));
+    limit(
+        "64_on_each_side",
+        0,
+        formulas.clone() + &tabbed(&format!("N 0 same 0 - {all} {all} / C {all} {all}")),
+    );
     limit("65_on_the_left", 9, formulas.clone() + &tabbed(&format!("N 0 same 0 - {over} 0")));
     limit("65_on_the_right", 9, formulas.clone() + &tabbed(&format!("N 0 same 0 - 0 {over}")));
-    limit("65_on_the_left_of_the_claim", 9, formulas.clone() + &tabbed(&format!("N 0 same 0 - 0 0 / C {over} 0")));
-    limit("65_on_the_right_of_the_claim", 9, formulas.clone() + &tabbed(&format!("N 0 same 0 - 0 0 / C 0 {over}")));
+    limit(
+        "65_on_the_left_of_the_claim",
+        9,
+        formulas.clone() + &tabbed(&format!("N 0 same 0 - 0 0 / C {over} 0")),
+    );
+    limit(
+        "65_on_the_right_of_the_claim",
+        9,
+        formulas.clone() + &tabbed(&format!("N 0 same 0 - 0 0 / C 0 {over}")),
+    );
     limit("65_premises_are_counted_only", 10, {
         let premises = vec!["0"; 65].join(",");
         negations(1) + &tabbed(&format!("N 0 same 0 - 0 0 / N 1 wr 0 {premises} 0 0"))

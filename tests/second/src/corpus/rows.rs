@@ -101,9 +101,9 @@ impl Reader<'_> {
             }
             [rule, principal, premises, left, sign, right] => {
                 let rule = ELK.code(rule).expect("a rule of the table");
-                let principal =
-                    (principal != "-").then(|| notation::formula(formulas, principal, &mut atom));
-                let (kind, sequent) = notation::sequent(formulas, &format!("{left} {sign} {right}"), &mut atom);
+                let principal = (principal != "-").then(|| notation::formula(formulas, principal, &mut atom));
+                let (kind, sequent) =
+                    notation::sequent(formulas, &format!("{left} {sign} {right}"), &mut atom);
                 assert_eq!(kind, ELK.rules[rule].conclusion.kind, "the sign of {words:?}");
                 let premises = premises.split(',').filter(|_| premises != "-");
                 let premises = premises.map(|line| self.made[line.parse::<usize>().unwrap()]).collect();

@@ -143,6 +143,12 @@ refused 11 falsum_comes
 refused 11 principal_is_another_formula
     same p - p => p,q
     bot q 0 p => p
+refused 11 principal_is_another_formula_where_falsum_goes
+    same p - p => p,#
+    bot q 0 p => p
+refused 11 principal_is_negated_falsum_where_falsum_goes
+    same p - p => p,#
+    bot ~# 0 p => p
 refused 11 principal_is_a_true_formula
     same p - p => p,~#
     bot ~# 0 p => p

@@ -32,7 +32,12 @@ pub fn cases() -> Vec<Case> {
         raw("form/byte_over_127_in_kind", 3, 1, b"\xC1\t0\tp\n".to_vec()),
         raw("form/byte_over_127_in_number", 3, 1, b"A\t\xB0\tp\n".to_vec()),
         raw("form/byte_over_127_in_word", 3, 2, b"A\t0\tp\nF\t0\tato\xED\t0\t-\n".to_vec()),
-        raw("form/byte_over_127_in_rule", 3, 3, b"A\t0\tp\nF\t0\tatom\t0\t-\nN\t0\tsam\xE5\t0\t-\t0\t0\n".to_vec()),
+        raw(
+            "form/byte_over_127_in_rule",
+            3,
+            3,
+            b"A\t0\tp\nF\t0\tatom\t0\t-\nN\t0\tsam\xE5\t0\t-\t0\t0\n".to_vec(),
+        ),
         raw("form/byte_over_127_in_side", 3, 1, b"C\t\xAD\t-\n".to_vec()),
         raw("names/byte_over_127", 6, 1, b"A\t0\tp\xE9\n".to_vec()),
         raw("names/zero_byte", 6, 1, b"A\t0\tp\0\n".to_vec()),
@@ -49,6 +54,7 @@ pub fn cases() -> Vec<Case> {
 type Table = &'static [(&'static str, u16, usize, &'static str)];
 
 /// In these, two spaces make an empty field.
+#[rustfmt::skip]
 const FORM: Table = &[
     ("form/kind_unknown", 3, 1, "B 0 p"),
     ("form/kind_in_small_letters", 3, 1, "a 0 p"),
@@ -120,6 +126,7 @@ const FORM: Table = &[
     ("form/bad_line_after_a_refused_line", 4, 1, "A 1 p / B"),
 ];
 
+#[rustfmt::skip]
 const ORDER: Table = &[
     ("order/atom_after_formula", 4, 2, "F 0 bot - - / A 0 p"),
     ("order/atom_after_row", 4, 2, "N 0 xini - - - - / A 0 p"),
@@ -146,6 +153,7 @@ const ORDER: Table = &[
     ("order/early_claim_is_judged_first", 12, 1, "C - - / A 0 p"),
 ];
 
+#[rustfmt::skip]
 const NAMES: Table = &[
     ("names/one_letter", 12, 2, "A 0 z / C - -"),
     ("names/of_24", 12, 2, "A 0 abcdefghijklmnopqrstuvwx / C - -"),
@@ -169,6 +177,7 @@ const NAMES: Table = &[
     ("names/differ_in_the_24th", 12, 3, "A 0 abcdefghijklmnopqrstuvwx / A 1 abcdefghijklmnopqrstuvwy / C - -"),
 ];
 
+#[rustfmt::skip]
 const REFERENCES: Table = &[
     ("references/atom_without_atoms", 7, 1, "F 0 atom 0 -"),
     ("references/atom_one_over", 7, 2, "A 0 p / F 0 atom 1 -"),
@@ -195,6 +204,7 @@ const REFERENCES: Table = &[
     ("references/claim_without_formulas", 7, 1, "C 0 -"),
 ];
 
+#[rustfmt::skip]
 const AGAIN: Table = &[
     ("again/bot", 8, 2, "F 0 bot - - / F 1 bot - -"),
     ("again/atom", 8, 3, "A 0 p / F 0 atom 0 - / F 1 atom 0 -"),
@@ -208,6 +218,7 @@ const AGAIN: Table = &[
     ("again/atom_and_not_of_the_same_number", 0, 5, "A 0 p / F 0 atom 0 - / F 1 not 0 - / N 0 same 1 - 1 1 / C 1 1"),
 ];
 
+#[rustfmt::skip]
 const SIDES: Table = &[
     ("sides/left_repeats", 9, 2, "F 0 bot - - / N 0 same 0 - 0,0 0"),
     ("sides/right_repeats", 9, 2, "F 0 bot - - / N 0 same 0 - 0 0,0"),
@@ -221,6 +232,7 @@ const SIDES: Table = &[
     ("sides/premises_may_fall_and_repeat", 0, 8, "F 0 bot - - / F 1 not 0 - / F 2 and 0 1 / N 0 same 0 - 0 0,1 / N 1 same 0 - 0 0 / N 2 andr 2 1,0 0 0,2 / N 3 andr 2 0,0 0 0,1,2 / C 0 0,1,2"),
 ];
 
+#[rustfmt::skip]
 const CLAIMS: Table = &[
     ("claims/no_lines_but_an_empty_claim", 12, 1, "C - -"),
     ("claims/last_row_is_a_refutation", 12, 2, "N 0 xini - - - - / C - -"),
@@ -241,6 +253,7 @@ const CLAIMS: Table = &[
     ("claims/absent_after_rows", 13, 4, "A 0 p / F 0 atom 0 - / N 0 same 0 - 0 0"),
 ];
 
+#[rustfmt::skip]
 const ABSENT_KINDS: Table = &[
     ("absent_kinds/no_atoms", 0, 3, "F 0 bot - - / N 0 same 0 - 0 0 / C 0 0"),
     ("absent_kinds/no_formulas", 12, 3, "A 0 p / N 0 xini - - - - / C - -"),
