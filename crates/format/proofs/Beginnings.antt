@@ -36,6 +36,7 @@ pub record Good (done : List Bytes) (f : File) : Type 0 where
   pub no-nodes : rank (f .stage) ≤ 0 → f .body .nodes ≡ []
   pub no-rows : rank (f .stage) ≤ 1 → f .body .rows ≡ []
   pub no-claim : rank (f .stage) ≤ 2 → f .claim ≡ none
+  pub claim-made : 3 ≤ rank (f .stage) → (c : Claim) × (f .claim ≡ some c)
   pub derivation : Derivation (derived (f .body .nodes) (f .body .rows))
   pub nodes-read : nodesIn done ≡ f .body .nodes
   pub claims-read : (line : Bytes) (l r : List ℕ) → line ∈ done → lineOf line ≡ some (claimLine l r) → (c : Claim) × (f .claim ≡ some c) × (c .left ≡ l) × (c .right ≡ r)
@@ -122,6 +123,7 @@ atom-good {done} {f} line n at name g e through =
       no-nodes = λ h. nodes;
       no-rows = λ h. rows;
       no-claim = λ h. claim;
+      claim-made = λ h. absurd (omega arith);
       derivation = g .derivation;
       nodes-read = nodes-kept line _ g e refl;
       claims-read = claims-kept line (withAtom f at name) g refl (λ l r k. let z : _≡_ {A = ℕ} 0 1 = cc in omega arith);
@@ -192,6 +194,7 @@ formula-good {done} {f} line n node g e through =
       no-nodes = λ h. absurd (omega arith);
       no-rows = λ h. rows;
       no-claim = λ h. claim;
+      claim-made = λ h. absurd (omega arith);
       derivation = subst (λ (rs : List Row). Derivation (derived (f .body .nodes ++ node ∷ []) rs)) (sym rows) start;
       nodes-read = nodes-with line _ g e;
       claims-read = claims-kept line (withNode f node) g refl (λ l r k. let z : _≡_ {A = ℕ} 0 1 = cc in omega arith);
@@ -225,6 +228,7 @@ row-good {done} {f} line n r g e through =
       no-nodes = λ h. absurd (omega arith);
       no-rows = λ h. absurd (omega arith);
       no-claim = λ h. claim;
+      claim-made = λ h. absurd (omega arith);
       derivation = subst Derivation (sym (derived-snoc (f .body .nodes) (f .body .rows) r)) (row (g .derivation) (r .rule) _ (premisesOf (f .body) r) (premises-derived (f .body) r (references .1)) (instance-of (f .body) r (ok .1 .1 .1 .1 .1 .0)));
       nodes-read = nodes-kept line _ g e refl;
       claims-read = claims-kept line (withRow f r) g refl (λ l q k. let z : _≡_ {A = ℕ} 0 1 = cc in omega arith);
@@ -262,6 +266,7 @@ claim-good {done} {f} line at left right g e through =
       no-nodes = λ h. absurd (omega arith);
       no-rows = λ h. absurd (omega arith);
       no-claim = λ h. absurd (omega arith);
+      claim-made = λ h. (record { line = at; left = left; right = right }, refl);
       derivation = g .derivation;
       nodes-read = nodes-kept line _ g e refl;
       claims-read = claims;
@@ -286,7 +291,7 @@ claim-good {done} {f} line at left right g e through =
     last : (c : Claim) → record { line = at; left = left; right = right } ≡ c → lastIs (f .body .rows) (c .left) (c .right) ≡ true
     last c k = subst (λ (d : Claim). lastIs (f .body .rows) (d .left) (d .right) ≡ true) k (not-false _ (ok .1 .1 .1 .0))
 
-step-good : {done : List Bytes} {f t : File} (p : Place) (line : Bytes) → Good done f → step f p line ≡ next t → Good (done ++ line ∷ []) t
+pub step-good : {done : List Bytes} {f t : File} (p : Place) (line : Bytes) → Good done f → step f p line ≡ next t → Good (done ++ line ∷ []) t
 unfolding step stepRead
 step-good {done} {f} {t} p line g e = read (lineOf line) refl e
   where
@@ -319,6 +324,7 @@ good-start =
       no-nodes = λ h. refl;
       no-rows = λ h. refl;
       no-claim = λ h. refl;
+      claim-made = λ h. absurd (omega arith);
       derivation = start;
       nodes-read = refl;
       claims-read = λ line l r m e. absurd (List·Memᴰ·not-nil m);

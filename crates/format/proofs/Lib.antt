@@ -1,6 +1,7 @@
 -- Laws of the file's definitions.
 pub mod Booleans
 pub mod Fold
+pub mod Stepping
 pub mod Formulas
 pub mod Beginnings
 pub mod Accepted

@@ -1,0 +1,91 @@
+-- `rows::literals::atoms_but` meets its contract. The invariant of its loop: the answer for the side is that for its rest.
+use Prim.Native.Nat.{ℕ, _+_, _-_, _≤_, _<_}
+use native.Mathlib.Numerals.{add-one}
+use mathlib.Core.Bool.{Bool, true, false, _&&_}
+use mathlib.Core.List.{List}
+use mathlib.Core.Path.{_≡_, refl, sym, ap, _∙_}
+use borrow.Author.Tests.{not-true, not-false}
+use lib.ListN.{length, getD, drop, drop-of-length-le}
+use lib.Seq.{drop-cons}
+use Rattle.rows.specs.Shapes.{shapeIn}
+use Rattle.rows.specs.declared.shapes.Shape.{Shape}
+use Rattle.rows.specs.Literals.{atomBut, atomsBut}
+use borrow.Author.Needs.{needs}
+use Rattle.rows.proofs.literals.atoms_but.Statement.{statement}
+use Rattle.rows.proofs.literals.atoms_but.Tie as tie
+use Rattle.rows.proofs.literals.atoms_but.Reads as reads
+use Rattle.rows.proofs.literals.atoms_but.Lts as lts
+use Rattle.rows.proofs.literals.atom_but.Reads as atom-but-reads
+use Rattle.rows.proofs.shapes.shape_of.Reads as shape-of-reads
+
+module _ (formulas : List ℕ) (p : ℕ) (side : List ℕ) (i : ℕ) where
+  head : i < length side → atomsBut formulas p (drop i side) ≡ (atomBut p (shapeIn formulas (getD side i 0)) && atomsBut formulas p (drop (i + 1) side))
+  unfolding atomsBut
+  head h = rw (add-one, drop-cons side i 0)
+
+  module _ {r : Bool} {s : Shape} (h : i < length side) (e : r ≡ atomBut p s) (k : s ≡ shapeIn formulas (getD side i 0)) where
+    tested : atomsBut formulas p (drop i side) ≡ (r && atomsBut formulas p (drop (i + 1) side))
+    tested = head h ∙ ap (λ (t : Bool). t && atomsBut formulas p (drop (i + 1) side)) (sym (e ∙ ap (atomBut p) k))
+
+    goes-on : r ≡ true → atomsBut formulas p (drop i side) ≡ atomsBut formulas p (drop (i + 1) side)
+    goes-on t = tested ∙ ap (λ (u : Bool). u && atomsBut formulas p (drop (i + 1) side)) t
+
+    fails : r ≡ false → atomsBut formulas p (drop i side) ≡ false
+    fails t = tested ∙ ap (λ (u : Bool). u && atomsBut formulas p (drop (i + 1) side)) t
+
+  ends : length side ≤ i → atomsBut formulas p (drop i side) ≡ true
+  unfolding atomsBut
+  ends h = ap (atomsBut formulas p) (drop-of-length-le side h)
+
+abbrev Inv-loop : tie.InvT-loop
+Inv-loop formulas side p i₀ i = atomsBut formulas p side ≡ atomsBut formulas p (drop i side)
+
+abbrev μ-loop : tie.MeasureT-loop
+μ-loop formulas side p i₀ i = length side - i
+
+loop-holds : tie.Need-loop-holds Inv-loop μ-loop
+loop-holds c = refl
+
+mul-shape-of : tie.Need-mul-shape-of Inv-loop μ-loop
+mul-shape-of c = search needs
+
+shared-slice-read-shape-of : tie.Need-shared-slice-read-shape-of Inv-loop μ-loop
+shared-slice-read-shape-of c = search needs
+
+shape-of-requires : tie.Need-shape-of-requires Inv-loop μ-loop
+shape-of-requires c κs = search needs
+
+atom-but-requires : tie.Need-atom-but-requires Inv-loop μ-loop
+atom-but-requires c κs = search needs
+
+returns : tie.Need-returns Inv-loop μ-loop
+returns c = sym (c .before .before .before .before .before .loop .inv ∙ fails (c .before .before .before .before .before .before .before .before .args .formulas .now) (c .before .before .before .before .before .before .before .before .args .p) (c .before .before .before .before .before .before .before .before .args .side .now) (c .before .before .before .before .before .loop .i) (search needs) (c .before .atom-but .ensures) (c .before .before .shape-of .ensures) (not-true _ (c .if1 .taken)))
+
+add-i : tie.Need-add-i Inv-loop μ-loop
+add-i c = search needs
+
+loop-less : tie.Need-loop-less Inv-loop μ-loop
+loop-less c = search needs
+
+loop-again : tie.Need-loop-again Inv-loop μ-loop
+loop-again c = c .before .before .before .before .before .loop .inv ∙ goes-on (c .before .before .before .before .before .before .before .before .args .formulas .now) (c .before .before .before .before .before .before .before .before .args .p) (c .before .before .before .before .before .before .before .before .args .side .now) (c .before .before .before .before .before .loop .i) (search needs) (c .before .atom-but .ensures) (c .before .before .shape-of .ensures) (not-false _ (c .if1 .left))
+
+returns-2 : tie.Need-returns-2 Inv-loop μ-loop
+returns-2 c = sym (c .before .loop .inv ∙ ends (c .before .before .before .before .args .formulas .now) (c .before .before .before .before .args .p) (c .before .before .before .before .args .side .now) (c .before .loop .i) (search needs))
+
+pub atoms-but-spec : {M : Type 1} → statement M
+atoms-but-spec =
+    tie.close
+    (tie.spec
+    Inv-loop
+    μ-loop
+    loop-holds
+    mul-shape-of
+    shared-slice-read-shape-of
+    shape-of-requires
+    atom-but-requires
+    returns
+    add-i
+    loop-less
+    loop-again
+    returns-2)

@@ -1,0 +1,23 @@
+-- `rows::unstable::atoms_at` meets its contract: past the end of the words there are no atoms.
+use mathlib.Core.Path.{sym}
+use lib.ListN.{List·getD-eq-default}
+use borrow.Author.Needs.{needs}
+use Rattle.rows.proofs.unstable.atoms_at.Statement.{statement}
+use Rattle.rows.proofs.unstable.atoms_at.Tie as tie
+use Rattle.rows.proofs.unstable.atoms_at.Reads as reads
+use Rattle.rows.proofs.unstable.atoms_at.Lts as lts
+
+mul-result : tie.Need-mul-result
+mul-result c = search needs
+
+shared-slice-read-result : tie.Need-shared-slice-read-result
+shared-slice-read-result c = search needs
+
+returns : tie.Need-returns
+returns c = search needs
+
+returns-2 : tie.Need-returns-2
+returns-2 c = sym (List·getD-eq-default (c .before .args .atoms .now) 0 (c .if1 .left))
+
+pub atoms-at-spec : {M : Type 1} → statement M
+atoms-at-spec = tie.close (tie.spec mul-result shared-slice-read-result returns returns-2)

@@ -1,0 +1,24 @@
+-- `rows::unstable::with_sign` meets its contract: only the sign 1 inserts.
+use mathlib.Core.Bool.{Bool, _||_, _&&_, or-false}
+use mathlib.Core.Path.{sym, ap, _∙_}
+use borrow.Author.Tests.{eq-eqb, ne-eqb}
+use Rattle.atomset.specs.AtomSet.{has}
+use Rattle.rows.specs.Literals.{at}
+use borrow.Author.Needs.{needs}
+use Rattle.rows.proofs.unstable.with_sign.Statement.{statement}
+use Rattle.rows.proofs.unstable.with_sign.Tie as tie
+use Rattle.rows.proofs.unstable.with_sign.Reads as reads
+use Rattle.rows.proofs.unstable.with_sign.Lts as lts
+use Rattle.atomset.proofs.insert.Reads as insert-reads
+
+insert-requires : tie.Need-insert-requires
+insert-requires c κs = search needs
+
+returns : tie.Need-returns
+returns c = λ i. c .insert .ensures i ∙ ap (λ (t : Bool). has (c .before .before .args .set) i || (t && at i (c .before .before .args .p))) (sym (eq-eqb _ _ (c .before .if1 .taken)))
+
+returns-2 : tie.Need-returns-2
+returns-2 c = λ i. sym (or-false (has (c .before .args .set) i)) ∙ ap (λ (t : Bool). has (c .before .args .set) i || (t && at i (c .before .args .p))) (sym (ne-eqb _ _ (c .if1 .left)))
+
+pub with-sign-spec : {M : Type 1} → statement M
+with-sign-spec = tie.close (tie.spec insert-requires returns returns-2)

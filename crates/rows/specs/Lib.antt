@@ -1,0 +1,10 @@
+pub mod Ground
+pub mod RuleTable
+pub mod Numbers
+pub mod Principal
+pub mod Judgement
+pub mod Schemas
+pub mod Cut
+pub mod Shapes
+pub mod Literals
+pub mod Unstable

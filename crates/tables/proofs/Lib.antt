@@ -1,0 +1,6 @@
+-- Laws of the tables that belong to no one function: of parts and writes, of sides as sets, and of tables that hold a file.
+pub mod Placed
+pub mod Sets
+pub mod Encoded
+mod Equal
+mod Turns

@@ -1,0 +1,216 @@
+-- What one more entry does to a list, and to what its reader knows of it.
+-- Assumes nothing.
+use Prim.Native.Nat.{ℕ, suc, _+_, _≤_, _<_, min, max}
+use mathlib.Core.Path.{_≡_, refl, sym, ap, ap₂, _∙_}
+use mathlib.Core.Bool.{Bool, true, false, _&&_}
+use mathlib.Core.List.{List, [], _∷_, _++_, append-assoc, append-nil}
+use mathlib.Core.Option.{Option, none, some}
+use native.Mathlib.Numerals.{lt-of-le-of-ne}
+use native.Mathlib.Omega.{arith}
+use lib.Dec.{ltb}
+use lib.ListN.{length, drop, set, length-append}
+use borrow.Author.Tests.{lt-ltb, le-ltb, ltb-true, ltb-false}
+use Rattle.format.specs.Text.{comma, partsAt, each, is, listOf, numberOf, strictlyRising, _<$>_, _<*>_}
+use Rattle.text.specs.Scan.{nextAt}
+use Rattle.text.specs.Answers.{largest, laidOver, listedAs, between, numberAs, ListedInto}
+use Rattle.text.specs.Inner.{entryAs, entryAt, Holds}
+use Rattle.text.specs.declared.Number.{Number}
+use Rattle.text.specs.declared.Entry.{Entry}
+use Rattle.text.specs.declared.Listed.{Listed}
+use Rattle.text.proofs.Scan.{next-bounds, next-part, last-part, first-part}
+
+largest-last : (xs : List ℕ) (n : ℕ) → largest (xs ++ n ∷ []) ≡ max (largest xs) n
+unfolding largest
+largest-last [] n = omega arith
+largest-last (x ∷ xs) n = omega (arith, largest-last xs n)
+
+-- an entry above all the others
+rising-last : (xs : List ℕ) (n : ℕ) → largest xs < n → strictlyRising (xs ++ n ∷ []) ≡ strictlyRising xs
+unfolding largest strictlyRising
+rising-last [] n h = refl
+rising-last (i ∷ []) n h = rw (lt-ltb i n (omega arith))
+rising-last (i ∷ j ∷ js) n h = ap (λ r. ltb i j && r) (rising-last (j ∷ js) n (omega arith))
+
+-- an entry that is not
+not-rising-last : (i : ℕ) (xs : List ℕ) (n : ℕ) → n ≤ largest (i ∷ xs) → strictlyRising ((i ∷ xs) ++ n ∷ []) ≡ false
+unfolding largest strictlyRising
+not-rising-last i [] n h = rw (le-ltb i n (omega arith))
+not-rising-last i (j ∷ js) n h = by-test (ltb i j) refl (not-rising-last j js n)
+  where
+    by-test : (t : Bool) → ltb i j ≡ t → (n ≤ largest (j ∷ js) → strictlyRising ((j ∷ js) ++ n ∷ []) ≡ false)
+        → t && strictlyRising ((j ∷ js) ++ n ∷ []) ≡ false
+    by-test true e rest = rest (omega (arith, ltb-true i j e))
+    by-test false e rest = refl
+
+-- ---- what is known of a list
+
+abbrev listing : ℕ → ℕ → Bool → Listed
+listing count top rising = record { well = true; count = count; largest = top; rising = rising }
+
+same-listing : {c c′ l l′ : ℕ} {r r′ : Bool} → c ≡ c′ → l ≡ l′ → r ≡ r′ → listing c l r ≡ listing c′ l′ r′
+same-listing p q s = cc
+
+module _ (listed : Listed) (n : ℕ) (xs : List ℕ) (e : listed ≡ listedAs (some xs)) where
+  counted : listed .count + 1 ≡ length (xs ++ n ∷ [])
+  counted = omega (arith, ap (λ l. l .count) e, length-append xs (n ∷ []))
+
+  pub entered-above : listed .largest < n → listing (listed .count + 1) n (listed .rising) ≡ listedAs (some (xs ++ n ∷ []))
+  entered-above h =
+      let below : largest xs < n = omega (arith, ap (λ l. l .largest) e) in
+      same-listing counted (omega (arith, largest-last xs n)) (ap (λ l. l .rising) e ∙ sym (rising-last xs n below))
+
+pub entered-first : (listed : Listed) (n : ℕ) (xs : List ℕ) → listed ≡ listedAs (some xs) → listed .count ≡ 0
+    → listing (listed .count + 1) n true ≡ listedAs (some (xs ++ n ∷ []))
+unfolding largest strictlyRising
+entered-first listed n [] e h = same-listing (omega arith) (omega arith) refl
+entered-first listed n (x ∷ xs) e h = absurd (omega (arith, ap (λ l. l .count) e))
+
+pub entered-below : (listed : Listed) (n : ℕ) (xs : List ℕ) → listed ≡ listedAs (some xs) → (listed .count ≡ 0 → ⊥) → n ≤ listed .largest
+    → listing (listed .count + 1) (listed .largest) false ≡ listedAs (some (xs ++ n ∷ []))
+entered-below listed n [] e filled h = absurd (filled (ap (λ l. l .count) e))
+entered-below listed n (x ∷ xs) e filled h =
+    let at-most : n ≤ largest (x ∷ xs) = omega (arith, ap (λ l. l .largest) e) in
+    same-listing (counted listed n (x ∷ xs) e) (omega (arith, largest-last (x ∷ xs) n, ap (λ l. l .largest) e)) (sym (not-rising-last x xs n at-most))
+
+-- ---- a turn of the reader
+
+laid-last : (xs : List ℕ) (n : ℕ) (was : List ℕ) → laidOver (xs ++ n ∷ []) was ≡ set (laidOver xs was) (length xs) (min n 65535)
+unfolding laidOver
+laid-last [] n [] = refl
+laid-last [] n (o ∷ was) = refl
+laid-last (x ∷ xs) n [] = refl
+laid-last (x ∷ xs) n (o ∷ was) = ap (λ l. min x 65535 ∷ l) (laid-last xs n was)
+
+laid-length : (xs was : List ℕ) → length (laidOver xs was) ≡ length was
+unfolding laidOver
+laid-length [] was = refl
+laid-length (x ∷ xs) [] = refl
+laid-length (x ∷ xs) (o ∷ was) = ap suc (laid-length xs was)
+
+pub one-more : (xs : List ℕ) (n : ℕ) (was is is′ : List ℕ) (listed r : Listed) → Holds xs was is listed
+    → is′ ≡ set is (listed .count) (min n 65535) → (listed ≡ listedAs (some xs) → r ≡ listedAs (some (xs ++ n ∷ []))) → Holds (xs ++ n ∷ []) was is′ r
+one-more xs n was is is′ listed r h stored known =
+    record {
+      answer = known (h .answer);
+      stored = stored ∙ ap₂ (λ l i. set l i (min n 65535)) (h .stored) (ap (λ l. l .count) (h .answer)) ∙ sym (laid-last xs n was);
+    }
+
+some-injective : (xs ys : List ℕ) → some xs ≡ some ys → xs ≡ ys
+some-injective xs ys e = cc
+
+pub entry-is : (field : List ℕ) (at end : ℕ) (number : Number) → end ≡ nextAt comma field at → number ≡ numberAs (numberOf (between field at end)) → entryAs number end ≡ entryAt field at
+unfolding entryAt
+entry-is field at end number e r = ap₂ entryAs (r ∙ ap (λ k. numberAs (numberOf (between field at k))) e) e
+
+-- what is read, in front of what is left
+infixr 30 _then_
+abbrev _then_ : List ℕ → Option (List ℕ) → Option (List ℕ)
+xs then o = (λ ys. xs ++ ys) <$> o
+
+then-none : (o : Option (List ℕ)) → [] then o ≡ o
+then-none none = refl
+then-none (some ys) = refl
+
+then-one : (xs : List ℕ) (n : ℕ) (o : Option (List ℕ)) → xs then (n ∷ []) then o ≡ (xs ++ n ∷ []) then o
+then-one xs n none = refl
+then-one xs n (some ys) = ap some (sym (append-assoc xs (n ∷ []) ys))
+
+-- the entries before `at` are read
+pub record Listing (field was out : List ℕ) (listed : Listed) (at : ℕ) : Type 0 where
+  pub entries : List ℕ
+  pub holds : Holds entries was out listed
+  pub few : length entries ≤ at
+  pub within : at ≤ length field
+  pub whole : listOf field ≡ entries then each numberOf (partsAt comma (drop at field))
+
+pub listing-none : (field was : List ℕ) → is "-" field ≡ false → Listing field was was (listing 0 0 true) 0
+unfolding listOf laidOver largest strictlyRising
+listing-none field was e =
+    record {
+      entries = [];
+      holds = record { answer = refl; stored = refl };
+      few = omega arith;
+      within = omega arith;
+      whole = simp e (sym (then-none (each numberOf (partsAt comma field))));
+    }
+
+pub listed-none : (field was : List ℕ) → is "-" field ≡ true → ListedInto field was was (listing 0 0 true)
+unfolding listOf laidOver largest strictlyRising
+listed-none field was e =
+    record {
+      answer = simp e;
+      stored = λ xs h. ap (λ xs. laidOver xs was) (some-injective [] xs (sym (simp e) ∙ h));
+      kept = refl;
+    }
+
+-- a turn reads the next entry
+module _ (field was out : List ℕ) (listed : Listed) (at : ℕ) (l : Listing field was out listed at) where
+  next : Option ℕ
+  next = numberOf (between field at (nextAt comma field at))
+
+  later : Option (List ℕ)
+  later = each numberOf (drop 1 (partsAt comma (drop at field)))
+
+  whole-by : (o : Option ℕ) → next ≡ o → listOf field ≡ l .entries then ((λ y ys. y ∷ ys) <$> o <*> later)
+  unfolding next later
+  whole-by o e = l .whole ∙ ap (λ parts. l .entries then each numberOf parts) (first-part comma field at (l .within)) ∙ ap (λ o. l .entries then ((λ y ys. y ∷ ys) <$> o <*> later)) e
+
+  pub listing-length : length out ≡ length was
+  listing-length = ap length (l .holds .stored) ∙ laid-length (l .entries) was
+
+  pub listing-few : listed .count ≤ length field
+  listing-few = omega (arith, ap (λ r. r .count) (l .holds .answer), l .few, l .within)
+
+  pub listed-bad : entryAt field at ≡ Entry.Bad → ListedInto field was out (listedAs none)
+  unfolding entryAt next
+  listed-bad e =
+      let bad : listOf field ≡ none = whole-by none (was-bad next (nextAt comma field at) e) in
+      record { answer = ap listedAs (sym bad); stored = λ xs h. absurd (none-some xs (sym bad ∙ h)); kept = listing-length }
+    where
+      was-bad : (o : Option ℕ) (end : ℕ) → entryAs (numberAs o) end ≡ Entry.Bad → o ≡ none
+      was-bad none end e = refl
+      was-bad (some n) end e = let z : _≡_ {A = ℕ} 0 1 = cc in absurd (omega arith)
+
+      none-some : (xs : List ℕ) → none ≡ some xs → ⊥
+      none-some xs e = let z : _≡_ {A = ℕ} 0 1 = cc in omega arith
+
+  module _ (n end : ℕ) (e : entryAt field at ≡ Entry.Value n end) where
+    was-value : (next ≡ some n) × (nextAt comma field at ≡ end)
+    unfolding entryAt next
+    was-value = by-case next (nextAt comma field at) e
+      where
+        by-case : (o : Option ℕ) (k : ℕ) → entryAs (numberAs o) k ≡ Entry.Value n end → (o ≡ some n) × (k ≡ end)
+        by-case none k e = let z : _≡_ {A = ℕ} 0 1 = cc in absurd (omega arith)
+        by-case (some m) k e = (cc, cc)
+
+    pub entry-bounds : (at ≤ end) × (end ≤ length field)
+    entry-bounds = rw (was-value .1) at (next-bounds comma field at (l .within))
+
+    whole-one : listOf field ≡ (l .entries ++ n ∷ []) then later
+    whole-one = whole-by (some n) (was-value .0) ∙ then-one (l .entries) n later
+
+    module _ (out′ : List ℕ) (listed′ : Listed) (h : Holds (l .entries ++ n ∷ []) was out′ listed′) where
+      pub listing-more : (end ≡ length field → ⊥) → Listing field was out′ listed′ (end + 1)
+      unfolding later
+      listing-more not-last =
+          let inside : end < length field = lt-of-le-of-ne (entry-bounds .1) not-last in
+          let rest = next-part comma field at (l .within) (rw (was-value .1) inside) in
+          record {
+            entries = l .entries ++ n ∷ [];
+            holds = h;
+            few = omega (arith, length-append (l .entries) (n ∷ []), l .few, entry-bounds);
+            within = omega arith;
+            whole = whole-one ∙ ap (λ parts. (l .entries ++ n ∷ []) then each numberOf parts) (ap (drop 1) rest ∙ ap (λ k. partsAt comma (drop (k + 1) field)) (was-value .1));
+          }
+
+      pub listed-last : end ≡ length field → ListedInto field was out′ listed′
+      unfolding later
+      listed-last last =
+          let rest = last-part comma field at (l .within) (was-value .1 ∙ last) in
+          let full : listOf field ≡ some (l .entries ++ n ∷ []) =
+          whole-one ∙ ap (λ parts. (l .entries ++ n ∷ []) then each numberOf (drop 1 parts)) rest ∙ ap some (append-nil (l .entries ++ n ∷ [])) in
+          record {
+            answer = h .answer ∙ ap listedAs (sym full);
+            stored = λ ys e. h .stored ∙ ap (λ xs. laidOver xs was) (some-injective _ ys (sym full ∙ e));
+            kept = ap length (h .stored) ∙ laid-length (l .entries ++ n ∷ []) was;
+          }

@@ -1,0 +1,563 @@
+// The readers of a text's parts: fields, numbers, lists, names and words, out of any bytes. Each contract says what the
+// answer is by the definitions of the crate `format`, or by one of `specs/` over them. No function that is `pub`
+// assumes anything of its bytes.
+ghost use mathlib.Core.Path.{_≡_};
+ghost use mathlib.Core.List.{List, [], _∷_, _++_};
+ghost use mathlib.Core.Option.{some};
+ghost use Prim.Native.Nat.{ℕ, _+_, _*_, _^_, _≤_, _<_, min};
+ghost use lib.ListN.{length, set};
+ghost use Rattle.format.specs.Text.{is, isDigit, isLetter, isName, numberOf, principalOf};
+ghost use Rattle.format.specs.Line.{ruleOf};
+ghost use Rattle.text.specs.Scan.{nextAt};
+ghost use Rattle.text.specs.Words.{kindOf, formulaWord, ruleCode};
+ghost use Rattle.text.specs.Answers.{numberAs, principalAs, Fielded, listedAs, ListedInto};
+ghost use Rattle.text.specs.Inner.{nameByte, IsKey, entryAt, Holds};
+
+// ---- parts
+
+// The index of the first such byte at or after `from`, or the length of `bytes` where there is none.
+pub fn find(bytes: &[u8], from: usize, byte: u8) -> usize
+    ensures { λ r. ⌜ r ≡ nextAt byte (now (bytes .entry)) from ⌝ }
+{
+    let mut at = from;
+    while at < bytes.len() {
+        if bytes[at] == byte {
+            return at;
+        }
+        at += 1;
+    }
+    bytes.len()
+}
+
+// How many fields a line has, and where each of the first seven ends. Field 0 starts at 0, and each other one past the end of
+// the field before it. An end that is not used is 0.
+pub struct Fields {
+    pub count: usize,
+    pub ends: [usize; 7],
+}
+
+// The fields of a line, counted to its end.
+pub fn read_fields(line: &[u8]) -> Fields
+    ensures { λ r. ⌜ Fielded (now (line .entry)) r ⌝ }
+{
+    let mut ends = [0usize; 7];
+    let mut count: usize = 0;
+    let mut at: usize = 0;
+    loop {
+        let end = find(line, at, b'\t');
+        if count < 7 {
+            ends[count] = end;
+        }
+        count += 1;
+        if end == line.len() {
+            return Fields { count, ends };
+        }
+        at = end + 1;
+    }
+}
+
+// The field is `-`.
+pub fn is_dash(field: &[u8]) -> bool
+    ensures { λ r. ⌜ r ≡ is "-" (now (field .entry)) ⌝ }
+{
+    if field.len() == 1 {
+        field[0] == b'-'
+    } else {
+        false
+    }
+}
+
+// ---- numbers
+
+// A number is at most 99,999, so that a value never wraps.
+pub enum Number {
+    Value(u32),
+    Bad,
+}
+
+fn is_digit(b: u8) -> bool
+    ensures { λ r. ⌜ r ≡ isDigit b ⌝ }
+{
+    b'0' <= b && b <= b'9'
+}
+
+fn wide32(b: u8) -> u32
+    ensures { λ r. ⌜ r ≡ b ⌝ }
+{
+    b as u32
+}
+
+// The number that a field writes.
+pub fn read_number(field: &[u8]) -> Number
+    ensures { λ r. ⌜ r ≡ numberAs (numberOf (now (field .entry))) ⌝ }
+{
+    if field.len() == 0 {
+        return Number::Bad;
+    }
+    if 5 < field.len() {
+        return Number::Bad;
+    }
+    if field[0] == b'0' {
+        if field.len() == 1 {
+            return Number::Value(0);
+        }
+        return Number::Bad;
+    }
+    let mut value = 0u32;
+    let mut at = 0;
+    while at < field.len() {
+        let b = field[at];
+        if !is_digit(b) {
+            return Number::Bad;
+        }
+        value = value * 10 + (wide32(b) - 48);
+        at += 1;
+    }
+    Number::Value(value)
+}
+
+pub enum Optional {
+    Absent,
+    Value(u32),
+    Bad,
+}
+
+// The principal formula that a field names, or `-`.
+pub fn read_principal(field: &[u8]) -> Optional
+    ensures { λ r. ⌜ r ≡ principalAs (principalOf (now (field .entry))) ⌝ }
+{
+    if is_dash(field) {
+        return Optional::Absent;
+    }
+    let number = read_number(field);
+    match number {
+        Number::Value(n) => Optional::Value(n),
+        Number::Bad => Optional::Bad,
+    }
+}
+
+// ---- lists
+
+// What is known of a list: whether it is well written; and if it is, how many entries it has, the largest (0 if there is none),
+// and whether they rise strictly. Of a badly written list all is 0 and false.
+pub struct Listed {
+    pub well: bool,
+    pub count: usize,
+    pub largest: u32,
+    pub rising: bool,
+}
+
+enum Entry {
+    Value(u32, usize),
+    Bad,
+}
+
+// The entry of a list that starts at `at`: its number, and where it ends.
+fn read_entry(field: &[u8], at: usize) -> Entry
+    requires { ⌜ at ≤ length (now field) ⌝ }
+    ensures { λ r. ⌜ r ≡ entryAt (now (field .entry)) at ⌝ }
+{
+    let end = find(field, at, b',');
+    let number = read_number(&field[at..end]);
+    match number {
+        Number::Value(n) => Entry::Value(n, end),
+        Number::Bad => Entry::Bad,
+    }
+}
+
+// What is known of a list after one more entry. Where a list rises, its largest entry is its last.
+fn entered(listed: Listed, n: u32) -> Listed
+    requires { ⌜ listed .count < 2 ^ 63 ⌝ }
+    ensures { λ r. ⌜ ((xs : List ℕ) → listed ≡ listedAs (some xs) → r ≡ listedAs (some (xs ++ n ∷ []))) ⌝ }
+{
+    let count = listed.count + 1;
+    if listed.count == 0 {
+        return Listed {
+            well: true,
+            count,
+            largest: n,
+            rising: true,
+        };
+    }
+    if listed.largest < n {
+        return Listed {
+            well: true,
+            count,
+            largest: n,
+            rising: listed.rising,
+        };
+    }
+    Listed {
+        well: true,
+        count,
+        largest: listed.largest,
+        rising: false,
+    }
+}
+
+fn capped(n: u32) -> u16
+    ensures { λ r. ⌜ r ≡ min n 65535 ⌝ }
+{
+    if n < 65536 {
+        return n as u16;
+    }
+    65535
+}
+
+// An entry is stored as far as the table is long.
+fn store(out: &mut [u16], at: usize, n: u32)
+    ensures { λ r. ⌜ now (out .exit) ≡ set (now (out .entry)) at (min n 65535) ⌝ }
+{
+    if at < out.len() {
+        out[at] = capped(n);
+    }
+}
+
+// One more entry, with its number stored.
+fn enter(listed: Listed, n: u32, out: &mut [u16]) -> Listed
+    requires { ⌜ listed .count < 2 ^ 63 ⌝ }
+    ensures { λ r. ⌜ ((xs was : List ℕ) → Holds xs was (now (out .entry)) listed → Holds (xs ++ n ∷ []) was (now (out .exit)) r) ⌝ }
+{
+    store(out, listed.count, n);
+    entered(listed, n)
+}
+
+// The list that a field writes, read to its end. Its entries are stored into `out`, as far as that is long; where the list is badly
+// written, what `out` holds is left free.
+pub fn read_list(field: &[u8], out: &mut [u16]) -> Listed
+    ensures { λ r. ⌜ ListedInto (now (field .entry)) (now (out .entry)) (now (out .exit)) r ⌝ }
+{
+    let mut listed = Listed {
+        well: true,
+        count: 0,
+        largest: 0,
+        rising: true,
+    };
+    if is_dash(field) {
+        return listed;
+    }
+    let mut at: usize = 0;
+    loop {
+        let entry = read_entry(field, at);
+        let Entry::Value(n, end) = entry else {
+            return Listed {
+                well: false,
+                count: 0,
+                largest: 0,
+                rising: false,
+            };
+        };
+        listed = enter(listed, n, out);
+        if end == field.len() {
+            return listed;
+        }
+        at = end + 1;
+    }
+}
+
+// ---- names
+
+fn is_letter(b: u8) -> bool
+    ensures { λ r. ⌜ r ≡ isLetter b ⌝ }
+{
+    b'a' <= b && b <= b'z'
+}
+
+fn is_name_byte(b: u8) -> bool
+    ensures { λ r. ⌜ r ≡ nameByte b ⌝ }
+{
+    if is_letter(b) {
+        return true;
+    }
+    if is_digit(b) {
+        return true;
+    }
+    b == b'_'
+}
+
+// The field is a name: 1 to 24 of a-z, 0-9 and `_`, the first a letter.
+pub fn is_name(field: &[u8]) -> bool
+    ensures { λ r. ⌜ r ≡ isName (now (field .entry)) ⌝ }
+{
+    if field.len() == 0 {
+        return false;
+    }
+    if 24 < field.len() {
+        return false;
+    }
+    if !is_letter(field[0]) {
+        return false;
+    }
+    let mut at = 0;
+    while at < field.len() {
+        if !is_name_byte(field[at]) {
+            return false;
+        }
+        at += 1;
+    }
+    true
+}
+
+// ---- words
+
+pub enum Kind {
+    Atom,
+    Formula,
+    Row,
+    Claim,
+    Unknown,
+}
+
+// The kind of line that its first field names.
+pub fn line_kind(field: &[u8]) -> Kind
+    ensures { λ r. ⌜ r ≡ kindOf (now (field .entry)) ⌝ }
+{
+    if field.len() != 1 {
+        return Kind::Unknown;
+    }
+    let b = field[0];
+    if b == b'A' {
+        return Kind::Atom;
+    }
+    if b == b'F' {
+        return Kind::Formula;
+    }
+    if b == b'N' {
+        return Kind::Row;
+    }
+    if b == b'C' {
+        return Kind::Claim;
+    }
+    Kind::Unknown
+}
+
+fn wide64(b: u8) -> u64
+    ensures { λ r. ⌜ r ≡ b ⌝ }
+{
+    b as u64
+}
+
+// A word as one number, its key; 0 for one that is longer than every word of a text. The 1 above the bytes keeps apart words that
+// differ in zero bytes at the end.
+fn pack(field: &[u8]) -> u64
+    ensures { λ r. ⌜ IsKey (now (field .entry)) r ⌝ }
+{
+    if 7 < field.len() {
+        return 0;
+    }
+    let mut key = 1u64;
+    let mut at = field.len();
+    while 0 < at {
+        at -= 1;
+        key = key * 256 + wide64(field[at]);
+    }
+    key
+}
+
+// The keys of the words of an F line.
+const BOT: u64 = 0x1746f62;
+
+const ATOM: u64 = 0x16d6f7461;
+
+const NOT: u64 = 0x1746f6e;
+
+const AND: u64 = 0x1646e61;
+
+const OR: u64 = 0x1726f;
+
+const IMP: u64 = 0x1706d69;
+
+// The word of an F line: 0 to 5, or 6 for any other.
+pub fn formula_word(field: &[u8]) -> u32
+    ensures { λ r. ⌜ r ≡ formulaWord (now (field .entry)) ⌝ }
+{
+    let key = pack(field);
+    if key == BOT {
+        return 0;
+    }
+    if key == ATOM {
+        return 1;
+    }
+    if key == NOT {
+        return 2;
+    }
+    if key == AND {
+        return 3;
+    }
+    if key == OR {
+        return 4;
+    }
+    if key == IMP {
+        return 5;
+    }
+    6
+}
+
+// The keys of the rules' words in the order of their codes, each in two halves. A table is built anew at each call, and one of
+// narrow numbers is built faster.
+const LOWS: [u32; 37] = [
+    0x1666564, // def
+    0x656d6173, // same
+    0x6c646e61, // andl
+    0x72646e61, // andr
+    0x17277, // wr
+    0x1746f62, // bot
+    0x172726f, // orr
+    0x16c726f, // orl
+    0x6c746f6e, // notl
+    0x72706d69, // impr
+    0x6c706d69, // impl
+    0x72746f6e, // notr
+    0x74756372, // rcut
+    0x74736e75, // unst
+    0x696e6978, // xini
+    0x6c6e6e78, // xnnl
+    0x726e6e78, // xnnr
+    0x646e6178, // xandl
+    0x646e6178, // xandr1
+    0x646e6178, // xandr2
+    0x72726f78, // xorr
+    0x6c726f78, // xorl1
+    0x6c726f78, // xorl2
+    0x706d6978, // ximpl1
+    0x706d6978, // ximpl2
+    0x706d6978, // ximpl3
+    0x706d6978, // ximpr1
+    0x706d6978, // ximpr2
+    0x6d696e78, // xnimpl
+    0x6d696e78, // xnimpr1
+    0x6d696e78, // xnimpr2
+    0x6e616e78, // xnandl1
+    0x6e616e78, // xnandl2
+    0x6e616e78, // xnandr
+    0x726f6e78, // xnorl
+    0x726f6e78, // xnorr1
+    0x726f6e78, // xnorr2
+];
+
+const HIGHS: [u32; 37] = [
+    0x0, // def
+    0x1, // same
+    0x1, // andl
+    0x1, // andr
+    0x0, // wr
+    0x0, // bot
+    0x0, // orr
+    0x0, // orl
+    0x1, // notl
+    0x1, // impr
+    0x1, // impl
+    0x1, // notr
+    0x1, // rcut
+    0x1, // unst
+    0x1, // xini
+    0x1, // xnnl
+    0x1, // xnnr
+    0x16c, // xandl
+    0x13172, // xandr1
+    0x13272, // xandr2
+    0x1, // xorr
+    0x131, // xorl1
+    0x132, // xorl2
+    0x1316c, // ximpl1
+    0x1326c, // ximpl2
+    0x1336c, // ximpl3
+    0x13172, // ximpr1
+    0x13272, // ximpr2
+    0x16c70, // xnimpl
+    0x1317270, // xnimpr1
+    0x1327270, // xnimpr2
+    0x1316c64, // xnandl1
+    0x1326c64, // xnandl2
+    0x17264, // xnandr
+    0x16c, // xnorl
+    0x13172, // xnorr1
+    0x13272, // xnorr2
+];
+
+// The code of the one rule whose word a key can be, by the key's remainder. An entry that no word leads to is 0.
+const SLOTS: [u8; 64] = [
+    5,
+    23,
+    30,
+    0,
+    25,
+    33,
+    0,
+    27,
+    0,
+    2,
+    1,
+    0,
+    16,
+    6,
+    0,
+    15,
+    0,
+    0,
+    35,
+    0,
+    29,
+    0,
+    0,
+    3,
+    0,
+    12,
+    24,
+    0,
+    0,
+    21,
+    7,
+    0,
+    0,
+    22,
+    0,
+    18,
+    0,
+    34,
+    32,
+    0,
+    14,
+    0,
+    0,
+    36,
+    0,
+    13,
+    26,
+    10,
+    0,
+    11,
+    0,
+    0,
+    8,
+    28,
+    17,
+    4,
+    31,
+    0,
+    0,
+    20,
+    19,
+    9,
+    0,
+    0,
+];
+
+fn joined(low: u32, high: u32) -> u64
+    ensures { λ r. ⌜ r ≡ high * 4294967296 + low ⌝ }
+{
+    (high as u64) * 4294967296 + (low as u64)
+}
+
+// The code of the rule whose word this is; 37 for any other.
+pub fn rule_word(field: &[u8]) -> u32
+    ensures { λ r. ⌜ r ≡ ruleCode (ruleOf (now (field .entry))) ⌝ }
+{
+    let key = pack(field);
+    let slot = (key % 366865 % 64) as usize;
+    let code = SLOTS[slot] as usize;
+    if joined(LOWS[code], HIGHS[code]) == key {
+        return code as u32;
+    }
+    37
+}

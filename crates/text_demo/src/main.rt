@@ -1,0 +1,156 @@
+// Runs the readers of `text` on a few fields and prints what each finds, a line for each. It assumes that standard output
+// can be written.
+ghost use mathlib.Core.Path.{_≡_};
+ghost use mathlib.Core.List.{[]};
+ghost use lib.ListN.{length, getD};
+ghost use Rattle.format.specs.Text.{fieldsOf};
+use libc::STDOUT_FILENO;
+use text::Kind;
+use text::Number;
+use text::Optional;
+
+fn put(bytes: &[u8]) {
+    io::write_all(STDOUT_FILENO, bytes);
+}
+
+fn put_decimal(n: u64) {
+    io::print_decimal(STDOUT_FILENO, n);
+}
+
+fn put_entry(n: u16) {
+    put_decimal(n as u64);
+}
+
+// What is read, and of which field.
+fn put_head(reader: &[u8], field: &[u8]) {
+    put(reader);
+    put(b" [");
+    put(field);
+    put(b"] ");
+}
+
+fn put_bool(yes: bool) {
+    if yes {
+        put(b"yes");
+    } else {
+        put(b"no");
+    }
+}
+
+fn show_number(field: &[u8]) {
+    put_head(b"number", field);
+    let number = text::read_number(field);
+    match number {
+        Number::Value(n) => put_decimal(n as u64),
+        Number::Bad => put(b"bad"),
+    }
+    put(b"\n");
+}
+
+fn show_principal(field: &[u8]) {
+    put_head(b"principal", field);
+    let principal = text::read_principal(field);
+    match principal {
+        Optional::Absent => put(b"absent"),
+        Optional::Value(n) => put_decimal(n as u64),
+        Optional::Bad => put(b"bad"),
+    }
+    put(b"\n");
+}
+
+// The table has room for two entries, and a list is read to its end.
+fn show_list(field: &[u8]) {
+    put_head(b"list", field);
+    let mut out = [0u16; 2];
+    let listed = text::read_list(field, &mut out);
+    if listed.well {
+        put_decimal(listed.count as u64);
+        put(b" entries, largest ");
+        put_decimal(listed.largest as u64);
+        put(b", rising ");
+        put_bool(listed.rising);
+        put(b", stored ");
+        put_entry(out[0]);
+        put(b" ");
+        put_entry(out[1]);
+    } else {
+        put(b"bad");
+    }
+    put(b"\n");
+}
+
+fn show_name(field: &[u8]) {
+    put_head(b"name", field);
+    put_bool(text::is_name(field));
+    put(b"\n");
+}
+
+fn show_words(field: &[u8]) {
+    put_head(b"word", field);
+    put(b"formula ");
+    put_decimal(text::formula_word(field) as u64);
+    put(b", rule ");
+    put_decimal(text::rule_word(field) as u64);
+    put(b"\n");
+}
+
+fn show_kind(field: &[u8]) {
+    put_head(b"kind", field);
+    let kind = text::line_kind(field);
+    match kind {
+        Kind::Atom => put(b"atom"),
+        Kind::Formula => put(b"formula"),
+        Kind::Row => put(b"row"),
+        Kind::Claim => put(b"claim"),
+        Kind::Unknown => put(b"unknown"),
+    }
+    put(b"\n");
+}
+
+// The third field of a line that has three; the empty part of any other.
+fn third(line: &[u8]) -> &[u8]
+    ensures { λ r. ⌜ (length (fieldsOf (now (line .entry))) ≡ 3 → now r ≡ getD (fieldsOf (now (line .entry))) 2 []) ⌝ }
+{
+    let fields = text::read_fields(line);
+    if fields.count != 3 {
+        return &line[..0];
+    }
+    let ends = fields.ends;
+    let start = ends[1] + 1;
+    let end = ends[2];
+    &line[start..end]
+}
+
+fn show_line(line: &[u8]) {
+    put_head(b"line", line);
+    let fields = text::read_fields(line);
+    put_decimal(fields.count as u64);
+    put(b" fields, the third of three [");
+    put(third(line));
+    put(b"]\n");
+}
+
+fn main() {
+    show_number(b"0");
+    show_number(b"99999");
+    show_number(b"100000");
+    show_number(b"007");
+    show_number(b"");
+    show_principal(b"-");
+    show_principal(b"12");
+    show_principal(b"12,");
+    show_list(b"-");
+    show_list(b"3,70000,70001");
+    show_list(b"3,3");
+    show_list(b"3,,4");
+    show_name(b"a_0");
+    show_name(b"_a");
+    show_words(b"bot");
+    show_words(b"xnandl2");
+    show_words(b"xnandl3");
+    show_kind(b"N");
+    show_kind(b"NN");
+    show_line(b"A\t0\tp");
+    show_line(b"C\t2\t");
+    show_line(b"\t\t\t\t\t\t\t\t");
+}
