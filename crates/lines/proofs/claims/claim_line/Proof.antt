@@ -1,0 +1,72 @@
+-- `lines::claims::claim_line` meets its contract. Assumes nothing.
+use mathlib.Core.Path.{sym, _∙_}
+use lib.Dec.{lit≤}
+use borrow.Author.Needs.{needs}
+use borrow.Author.Tests.{not-true, not-false}
+use Rattle.lines.proofs.Claiming.{claim-miscounted, claim-left-bad, claim-right-bad, claim-read}
+use Rattle.lines.proofs.claims.claim_line.Statement.{statement}
+use Rattle.lines.proofs.claims.claim_line.Tie as tie
+
+refused-requires : tie.Need-refused-requires
+refused-requires c κs = search needs
+
+returns : tie.Need-returns
+returns c text f p t s at kind e k l = claim-miscounted s p _ kind _ (λ h. c .before .if1 .taken (c .before .before .before .before .before .before .before .pre .counted ∙ h)) (c .refused .ensures)
+
+field-requires : tie.Need-field-requires
+field-requires c κs = search needs
+
+slice-aggregate-read-list : tie.Need-slice-aggregate-read-list
+slice-aggregate-read-list c = search needs
+
+read-list-requires : tie.Need-read-list-requires
+read-list-requires c κs = search needs
+
+field-requires-2 : tie.Need-field-requires-2
+field-requires-2 c κs = search needs
+
+slice-aggregate-read-list-2 : tie.Need-slice-aggregate-read-list-2
+slice-aggregate-read-list-2 c = search needs
+
+read-list-requires-2 : tie.Need-read-list-requires-2
+read-list-requires-2 c κs = search needs
+
+refused-requires-2 : tie.Need-refused-requires-2
+refused-requires-2 c κs = search needs
+
+returns-2 : tie.Need-returns-2
+returns-2 c text f p t s at kind e k l =
+    let second = c .before .before .before .before in
+    let first = second .before .before .before .before in
+    claim-left-bad s p _ kind (sym (first .before .before .before .before .before .before .before .before .before .pre .counted) ∙ first .before .before .before .if1 .left)
+    (first .before .before .field .ensures) (second .before .before .field2 .ensures) (first .read-list .ensures) (second .read-list2 .ensures) _ (not-true (first .read-list .result .well) (c .before .if2 .taken)) (c .refused2 .ensures)
+
+refused-requires-3 : tie.Need-refused-requires-3
+refused-requires-3 c κs = search needs
+
+returns-3 : tie.Need-returns-3
+returns-3 c text f p t s at kind e k l =
+    let second = c .before .before .before .before .before .before in
+    let first = second .before .before .before .before in
+    claim-right-bad s p _ kind (sym (first .before .before .before .before .before .before .before .before .before .pre .counted) ∙ first .before .before .before .if1 .left)
+    (first .before .before .field .ensures) (second .before .before .field2 .ensures) (first .read-list .ensures) (second .read-list2 .ensures) _ (not-true (second .read-list2 .result .well) (c .before .if3 .taken)) (c .refused3 .ensures)
+
+slice-aggregate-settle-claim : tie.Need-slice-aggregate-settle-claim
+slice-aggregate-settle-claim c = search needs
+
+slice-aggregate-settle-claim-2 : tie.Need-slice-aggregate-settle-claim-2
+slice-aggregate-settle-claim-2 c = search needs
+
+settle-claim-requires : tie.Need-settle-claim-requires
+settle-claim-requires c κs = search needs
+
+returns-4 : tie.Need-returns-4
+returns-4 c text f p t s at kind e k l =
+    let second = c .before .before .before .before .before .before .before .before in
+    let first = second .before .before .before .before in
+    claim-read s p _ kind (sym (first .before .before .before .before .before .before .before .before .before .pre .counted) ∙ first .before .before .before .if1 .left)
+    (first .before .before .field .ensures) (second .before .before .field2 .ensures) (first .read-list .ensures) (second .read-list2 .ensures) _ (not-false (first .read-list .result .well) (c .before .before .before .before .before .if2 .left)) (not-false (second .read-list2 .result .well) (c .before .before .before .if3 .left)) (lit≤ tt) (lit≤ tt)
+    (λ xs ys x y. c .settle-claim .ensures text f p t xs ys s at x y e k l)
+
+pub claim-line-spec : {M : Type 1} → statement M
+claim-line-spec = tie.close (tie.spec refused-requires returns field-requires slice-aggregate-read-list read-list-requires field-requires-2 slice-aggregate-read-list-2 read-list-requires-2 refused-requires-2 returns-2 refused-requires-3 returns-3 slice-aggregate-settle-claim slice-aggregate-settle-claim-2 settle-claim-requires returns-4)

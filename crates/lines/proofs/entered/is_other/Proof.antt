@@ -1,0 +1,25 @@
+-- `lines::entered::is_other` meets its contract. Assumes nothing.
+use mathlib.Core.Path.{sym, ap}
+use borrow.Author.Needs.{needs}
+use Rattle.text.specs.declared.Number.{Number}
+use Rattle.lines.specs.Entering.{otherOf}
+use Rattle.lines.proofs.entered.is_other.Statement.{statement}
+use Rattle.lines.proofs.entered.is_other.Tie as tie
+
+enum-known-number : tie.Need-enum-known-number
+enum-known-number c = search needs
+
+cast-result : tie.Need-cast-result
+cast-result c = search needs
+
+enum-told : tie.Need-enum-told
+enum-told c = search needs
+
+returns : tie.Need-returns
+returns c = ap (λ (n : Number). otherOf n (c .before .before .before .args .next)) (sym (c .before .number .given .1))
+
+returns-2 : tie.Need-returns-2
+returns-2 c = search needs
+
+pub is-other-spec : {M : Type 1} → statement M
+is-other-spec = tie.close (tie.spec enum-known-number cast-result enum-told returns returns-2)

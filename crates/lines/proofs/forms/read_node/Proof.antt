@@ -1,0 +1,112 @@
+-- `lines::forms::read_node` meets its contract: each way out by the word and the form of the operands. Assumes nothing.
+use borrow.Author.Needs.{needs}
+use mathlib.Core.Path.{sym, _∙_}
+use borrow.Author.Tests.{not-true, not-false}
+use Rattle.lines.proofs.Nodes.{no-word, bot-first, bot-second, bot-read, first-bad, one-operand-more, one-read, second-bad, two-read}
+use Rattle.lines.proofs.forms.read_node.Statement.{statement}
+use Rattle.lines.proofs.forms.read_node.Tie as tie
+
+formula-word-requires : tie.Need-formula-word-requires
+formula-word-requires c κs = search needs
+
+badly-requires : tie.Need-badly-requires
+badly-requires c κs = search needs
+
+returns : tie.Need-returns
+returns c = c .badly .ensures ∙ no-word _ _ _ _ (c .before .before .formula-word .ensures) (c .before .if1 .taken)
+
+is-dash-requires : tie.Need-is-dash-requires
+is-dash-requires c κs = search needs
+
+badly-requires-2 : tie.Need-badly-requires-2
+badly-requires-2 c κs = search needs
+
+returns-2 : tie.Need-returns-2
+returns-2 c = c .badly2 .ensures ∙ bot-first _ _ _ _ (c .before .before .before .before .before .formula-word .ensures) (c .before .before .before .if2 .taken) (sym (c .before .before .is-dash .ensures) ∙ not-true _ (c .before .if3 .taken))
+
+is-dash-requires-2 : tie.Need-is-dash-requires-2
+is-dash-requires-2 c κs = search needs
+
+badly-requires-3 : tie.Need-badly-requires-3
+badly-requires-3 c κs = search needs
+
+returns-3 : tie.Need-returns-3
+returns-3 c = c .badly3 .ensures ∙ bot-second _ _ _ _ (c .before .before .before .before .before .before .before .formula-word .ensures) (c .before .before .before .before .before .if2 .taken) (sym (c .before .before .before .before .is-dash .ensures) ∙ not-false _ (c .before .before .before .if3 .left)) (sym (c .before .before .is-dash2 .ensures) ∙ not-true _ (c .before .if4 .taken))
+
+returns-4 : tie.Need-returns-4
+returns-4 c = bot-read _ _ _ _ (c .before .before .before .before .before .before .formula-word .ensures) (c .before .before .before .before .if2 .taken) (sym (c .before .before .before .is-dash .ensures) ∙ not-false _ (c .before .before .if3 .left)) (sym (c .before .is-dash2 .ensures) ∙ not-false _ (c .if4 .left))
+
+read-number-requires : tie.Need-read-number-requires
+read-number-requires c κs = search needs
+
+enum-known-one : tie.Need-enum-known-one
+enum-known-one c = search needs
+
+enum-told : tie.Need-enum-told
+enum-told c = search needs
+
+badly-requires-4 : tie.Need-badly-requires-4
+badly-requires-4 c κs = search needs
+
+returns-5 : tie.Need-returns-5
+returns-5 c = c .badly4 .ensures ∙ first-bad _ _ _ _ (c .before .before .before .before .before .before .formula-word .ensures) (c .before .before .before .before .if2 .left) (sym (c .before .before .before .read-number .ensures) ∙ c .before .enum-told .given .1)
+
+is-dash-requires-3 : tie.Need-is-dash-requires-3
+is-dash-requires-3 c κs = search needs
+
+badly-requires-5 : tie.Need-badly-requires-5
+badly-requires-5 c κs = search needs
+
+returns-6 : tie.Need-returns-6
+returns-6 c = c .badly5 .ensures ∙ one-operand-more _ _ _ _ (c .before .before .before .before .before .before .before .before .before .before .formula-word .ensures) (c .before .before .before .before .before .before .before .before .if2 .left) _ (sym (c .before .before .before .before .before .before .before .read-number .ensures) ∙ c .before .before .before .before .before .one .given .1) (c .before .before .before .if5 .taken) (sym (c .before .before .is-dash3 .ensures) ∙ not-true _ (c .before .if6 .taken))
+
+returns-7 : tie.Need-returns-7
+returns-7 c = one-read _ _ _ _ (c .before .before .before .before .before .before .before .before .before .formula-word .ensures) (c .before .before .before .before .before .before .before .if2 .left) _ (sym (c .before .before .before .before .before .before .read-number .ensures) ∙ c .before .before .before .before .one .given .1) (c .before .before .if5 .taken) (sym (c .before .is-dash3 .ensures) ∙ not-false _ (c .if6 .left))
+
+read-number-requires-2 : tie.Need-read-number-requires-2
+read-number-requires-2 c κs = search needs
+
+enum-known-two : tie.Need-enum-known-two
+enum-known-two c = search needs
+
+enum-told-2 : tie.Need-enum-told-2
+enum-told-2 c = search needs
+
+badly-requires-6 : tie.Need-badly-requires-6
+badly-requires-6 c κs = search needs
+
+returns-8 : tie.Need-returns-8
+returns-8 c = c .badly6 .ensures ∙ second-bad _ _ _ _ (c .before .before .before .before .before .before .before .before .before .before .before .formula-word .ensures) (c .before .before .before .before .before .before .before .before .before .if2 .left) _ (sym (c .before .before .before .before .before .before .before .before .read-number .ensures) ∙ c .before .before .before .before .before .before .one .given .1) (c .before .before .before .before .if5 .left) (c .before .before .before .before .before .before .before .before .before .before .if1 .left) (sym (c .before .before .before .read-number2 .ensures) ∙ c .before .enum-told2 .given .1)
+
+returns-9 : tie.Need-returns-9
+returns-9 c = two-read _ _ _ _ (c .before .before .before .before .before .before .before .before .before .before .before .formula-word .ensures) (c .before .before .before .before .before .before .before .before .before .if2 .left) _ (sym (c .before .before .before .before .before .before .before .before .read-number .ensures) ∙ c .before .before .before .before .before .before .one .given .1) (c .before .before .before .before .if5 .left) (c .before .before .before .before .before .before .before .before .before .before .if1 .left) _ (sym (c .before .before .before .read-number2 .ensures) ∙ c .before .two .given .1)
+
+pub read-node-spec : {M : Type 1} → statement M
+read-node-spec =
+    tie.close
+    (tie.spec
+    formula-word-requires
+    badly-requires
+    returns
+    is-dash-requires
+    badly-requires-2
+    returns-2
+    is-dash-requires-2
+    badly-requires-3
+    returns-3
+    returns-4
+    read-number-requires
+    enum-known-one
+    enum-told
+    badly-requires-4
+    returns-5
+    is-dash-requires-3
+    badly-requires-5
+    returns-6
+    returns-7
+    read-number-requires-2
+    enum-known-two
+    enum-told-2
+    badly-requires-6
+    returns-8
+    returns-9)
