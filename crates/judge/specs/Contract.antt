@@ -54,3 +54,13 @@ pub record Zeros (names formulas rows left right : List ℕ) : Type 0 where
   pub rows-table : rows ≡ replicate (length rows) 0
   pub left-pool : left ≡ replicate (length left) 0
   pub right-pool : right ≡ replicate (length right) 0
+
+-- tables of exactly the least lengths
+abbrev pub least : Lent
+least = record { names = 128; formulas = 3072; rows = 16384; left = 16384; right = 16384 }
+
+-- the promise of a call that lends tables of its own
+pub record Checks (text : Bytes) (answer : Answer) : Type 0 where
+  pub number : answer .number ≡ numberIn (judged least text)
+  pub line : answer .line ≡ lineIn (judged least text)
+  pub claim-holds : answer .number ≡ 0 → ClaimFails text → ⊥

@@ -7,7 +7,7 @@ ghost use Prim.Native.Nat.{_≤_, _<_};
 ghost use lib.ListN.{length, replicate};
 ghost use Rattle.format.specs.Tables.{tooShort};
 ghost use Rattle.lines.specs.State.{Full};
-ghost use Rattle.judge.specs.Contract.{Judges, Accepts, Refuses, Zeros};
+ghost use Rattle.judge.specs.Contract.{Judges, Checks, Accepts, Refuses, Zeros};
 ghost use Rattle.judge.specs.Running.{Running, Advances};
 use lines::state::Counts;
 use lines::step_line;
@@ -219,4 +219,32 @@ pub fn judge(
         return Answer { number: 2, line: 0 };
     }
     run_or_clear(text, names, formulas, rows, left, right)
+}
+
+// For C: the same with the lent tables, each a pointer and a length.
+#[no_mangle]
+pub extern "C" fn elk_judge(
+    text: &[u8],
+    names: &mut [u16],
+    formulas: &mut [u16],
+    rows: &mut [u16],
+    left: &mut [u16],
+    right: &mut [u16],
+) -> Answer
+    ensures { λ r. ⌜ Judges (now (text .entry)) (record { names = length (now (names .entry)); formulas = length (now (formulas .entry)); rows = length (now (rows .entry)); left = length (now (left .entry)); right = length (now (right .entry)) }) (now (names .exit)) (now (formulas .exit)) (now (rows .exit)) (now (left .exit)) (now (right .exit)) r ⌝ }
+{
+    judge(text, names, formulas, rows, left, right)
+}
+
+// For C: the answer alone, with tables of its own.
+#[no_mangle]
+pub extern "C" fn elk_check(text: &[u8]) -> Answer
+    ensures { λ r. ⌜ Checks (now (text .entry)) r ⌝ }
+{
+    let mut names = [0u16; 128];
+    let mut formulas = [0u16; 3072];
+    let mut rows = [0u16; 16384];
+    let mut left = [0u16; 16384];
+    let mut right = [0u16; 16384];
+    judge(text, &mut names, &mut formulas, &mut rows, &mut left, &mut right)
 }
