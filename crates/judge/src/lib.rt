@@ -246,5 +246,12 @@ pub extern "C" fn elk_check(text: &[u8]) -> Answer
     let mut rows = [0u16; 16384];
     let mut left = [0u16; 16384];
     let mut right = [0u16; 16384];
-    judge(text, &mut names, &mut formulas, &mut rows, &mut left, &mut right)
+    judge(
+        text,
+        &mut names,
+        &mut formulas,
+        &mut rows,
+        &mut left,
+        &mut right,
+    )
 }
