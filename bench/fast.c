@@ -1,0 +1,744 @@
+/* A checker that nothing is proved of, made for speed: what the benchmark holds the proved one against. It defines the entries of
+ * govelamuth.h, for little-endian machines, with the same answers and tables.
+ *
+ * It goes through the text once, and reads straight into the lent tables. What rules ask of a formula is worked out when its line is
+ * read: the number of its negation, its atoms, and what it can be in unst. Sides are compared with two cursors. */
+#include <stdbool.h>
+#include <string.h>
+
+#include "govelamuth.h"
+
+enum { ATOMS = 64, FORMULAS = 1024, ROWS = 2048, ON_SIDE = 64, ENTRIES = 16384, BYTES = 65536, ABSENT = 65535 };
+
+enum {
+    ACCEPTED, SHORT_TABLE, TOO_LONG, BAD_LINE, OUT_OF_ORDER, FULL, BAD_NAME, NO_SUCH_ITEM, FORMULA_AGAIN, BAD_SIDE, WRONG_PREMISES,
+    WRONG_STEP, CLAIM_DIFFERS, NO_CLAIM
+};
+
+/* ---- the rules */
+
+/* The forms of principal formulas, beginning with the words of F lines by their codes; then the rules that stand alone. */
+enum form { BOT, ATOM, NOT, AND, OR, IMP, ANY, NOT_NOT, NOT_AND, NOT_OR, NOT_IMP, DEF, RCUT, UNST, XINI };
+
+/* What a rule adds to a side of a premise: parts of the principal formula, or their negations. */
+enum part { NOTHING, A, B, NOT_A, NOT_B };
+
+enum { LEFT = 1, RIGHT = 2 };
+
+struct rule {
+    char word[8];
+    uint8_t form, premises;
+    uint8_t principal;               /* the sides of the conclusion that it is on */
+    uint8_t left[2][2], right[2][2]; /* what is added to each premise */
+};
+
+enum { RULES = 37, FIRST_REFUTATION = 14 };
+
+static const struct rule rules[RULES] = {
+    {"def", .form = DEF},
+    {"same", ANY, 0, .principal = LEFT | RIGHT},
+    {"andl", AND, 1, LEFT, .left = {{A, B}}},
+    {"andr", AND, 2, RIGHT, .right = {{A}, {B}}},
+    {"wr", ANY, 1, .principal = RIGHT},
+    {"bot", BOT, 1, .right = {{A}}},
+    {"orr", OR, 1, RIGHT, .right = {{A, B}}},
+    {"orl", OR, 2, LEFT, .left = {{A}, {B}}, .right = {{NOTHING}, {A}}},
+    {"notl", NOT, 1, LEFT, .right = {{A}}},
+    {"impr", IMP, 1, RIGHT, .left = {{A}}, .right = {{B}}},
+    {"impl", IMP, 2, LEFT, .left = {{B}, {NOTHING}}, .right = {{NOT_A}, {A}}},
+    {"notr", NOT, 1, RIGHT, .left = {{A}}},
+    {"rcut", RCUT, .premises = 2},
+    {"unst", UNST, .premises = 2},
+    {"xini", .form = XINI},
+    {"xnnl", NOT_NOT, 1, LEFT, .right = {{NOT_A}}},
+    {"xnnr", NOT_NOT, 1, RIGHT, .left = {{NOT_A}}},
+    {"xandl", AND, 1, LEFT, .left = {{A, B}}},
+    {"xandr1", AND, 1, RIGHT, .right = {{A}}},
+    {"xandr2", AND, 1, RIGHT, .right = {{B}}},
+    {"xorr", OR, 1, RIGHT, .right = {{A, B}}},
+    {"xorl1", OR, 1, LEFT, .left = {{A}}},
+    {"xorl2", OR, 1, LEFT, .left = {{B}}},
+    {"ximpl1", IMP, 1, LEFT, .right = {{A, NOT_B}}},
+    {"ximpl2", IMP, 1, LEFT, .left = {{B}}},
+    {"ximpl3", IMP, 1, LEFT, .left = {{NOT_A}}},
+    {"ximpr1", IMP, 1, RIGHT, .left = {{A}}, .right = {{B}}},
+    {"ximpr2", IMP, 1, RIGHT, .left = {{NOT_B}}, .right = {{NOT_A}}},
+    {"xnimpl", NOT_IMP, 1, LEFT, .left = {{NOT_B}}, .right = {{NOT_A}}},
+    {"xnimpr1", NOT_IMP, 1, RIGHT, .left = {{NOT_A}}},
+    {"xnimpr2", NOT_IMP, 1, RIGHT, .right = {{NOT_B}}},
+    {"xnandl1", NOT_AND, 1, LEFT, .left = {{NOT_A}}},
+    {"xnandl2", NOT_AND, 1, LEFT, .left = {{NOT_B}}},
+    {"xnandr", NOT_AND, 1, RIGHT, .right = {{NOT_A, NOT_B}}},
+    {"xnorl", NOT_OR, 1, LEFT, .left = {{NOT_A, NOT_B}}},
+    {"xnorr1", NOT_OR, 1, RIGHT, .right = {{NOT_A}}},
+    {"xnorr2", NOT_OR, 1, RIGHT, .right = {{NOT_B}}},
+};
+
+/* ---- what is known of an accepted beginning */
+
+/* Records of the lent tables. */
+struct name {
+    uint16_t start, length;
+};
+struct node {
+    uint16_t word, first, second;
+};
+struct row {
+    uint16_t rule, principal, premises[2], left_start, left_length, right_start, right_length;
+};
+
+enum literal { OTHER, FALSUM, VERUM, PLAIN, NEGATED, DOUBLED }; /* #, ~#, p, ~p, ~~p */
+
+/* What the rules ask of a formula. A set of atoms is empty where the formula is not of the form. */
+struct traits {
+    uint64_t occurring;      /* all its atoms */
+    uint64_t joined, chosen; /* as K of unst: its atoms, and those that stand without ~ */
+    uint64_t middles;        /* as E of unst: its atoms */
+    uint16_t negation;       /* the number of ~A, or ABSENT */
+    uint8_t literal, atom;
+};
+
+enum { WORD_BITS = 7, WORD_SLOTS = 1 << WORD_BITS, NAME_BITS = 7, NAME_SLOTS = 1 << NAME_BITS };
+enum { FORMULA_BITS = 11, FORMULA_SLOTS = 1 << FORMULA_BITS };
+
+struct checker {
+    const uint8_t *text, *end;
+    struct name *names;
+    struct node *nodes;
+    struct row *rows;
+    uint16_t *left, *right;
+    uint32_t stage; /* 0 to 3: atoms, formulas, rows, claimed */
+    uint32_t atoms, formulas, row_count, left_used, right_used;
+    /* Hash tables with linear probing; 0 is a free slot. */
+    uint8_t word_slots[WORD_SLOTS], name_slots[NAME_SLOTS];
+    uint32_t formula_slots[FORMULA_SLOTS];
+    struct traits traits[FORMULAS]; /* last, since it is not cleared */
+};
+
+/* ---- fields: each reader takes a field and the byte that must end it, and tells whether both are as they should be. Every reader
+ * stops at a line feed, which the last byte before `end` is. */
+
+static inline bool digits(const uint8_t **at, uint32_t *number) {
+    const uint8_t *p = *at;
+    uint32_t value = *p++ - (uint32_t)'0', digit;
+    if (value > 9)
+        return false;
+    if (value != 0)
+        for (int count = 1; (digit = *p - (uint32_t)'0') <= 9; p++) {
+            if (++count > 5)
+                return false;
+            value = value * 10 + digit;
+        }
+    *number = value;
+    *at = p;
+    return true;
+}
+
+static inline bool read_number(const uint8_t **at, uint8_t stop, uint32_t *number) {
+    return digits(at, number) && *(*at)++ == stop;
+}
+
+static inline bool read_dash(const uint8_t **at, uint8_t stop) {
+    return *(*at)++ == '-' && *(*at)++ == stop;
+}
+
+struct list {
+    uint32_t count, largest;
+    bool rising;
+};
+
+/* The entries are stored as far as there is room. */
+static inline bool read_list(const uint8_t **at, uint8_t stop, uint16_t *entries, uint32_t room, struct list *list) {
+    *list = (struct list){0, 0, true};
+    if (**at == '-')
+        return read_dash(at, stop);
+    for (;;) {
+        uint32_t number;
+        if (!digits(at, &number))
+            return false;
+        if (list->count < room)
+            entries[list->count] = (uint16_t)number;
+        if (list->count > 0 && number <= list->largest)
+            list->rising = false;
+        else
+            list->largest = number;
+        list->count++;
+        uint8_t after = *(*at)++;
+        if (after == stop)
+            return true;
+        if (after != ',')
+            return false;
+    }
+}
+
+/* The high bits of the zero bytes, exact up to the lowest of them. */
+static inline uint64_t zero_bytes(uint64_t bytes) {
+    const uint64_t ones = 0x0101010101010101;
+    return (bytes - ones) & ~bytes & ones << 7;
+}
+
+/* A word of up to 7 bytes as one number, the first byte lowest; 0 where no tab ends it, and for one that holds a zero byte, which
+ * could pass for a shorter one. */
+static inline uint64_t read_word(const struct checker *c, const uint8_t **at) {
+    uint64_t bytes = 0;
+    if (c->end - *at >= 8)
+        memcpy(&bytes, *at, 8);
+    else
+        memcpy(&bytes, *at, (size_t)(c->end - *at));
+    uint64_t tabs = zero_bytes(bytes ^ 0x0909090909090909);
+    uint64_t below = (tabs & -tabs) - 1;
+    if (tabs == 0 || (zero_bytes(bytes) & below) != 0)
+        return 0;
+    *at += __builtin_ctzll(tabs) / 8 + 1;
+    return bytes & below >> 7;
+}
+
+static inline uint64_t word_key(const char word[8]) {
+    uint64_t key;
+    memcpy(&key, word, 8);
+    return key;
+}
+
+static inline uint32_t hash(uint64_t key, int bits) { return (uint32_t)(key * 0x9e3779b97f4a7c15 >> (64 - bits)); }
+
+static void enter_words(struct checker *c) {
+    for (uint8_t code = 0; code < RULES; code++) {
+        uint32_t slot = hash(word_key(rules[code].word), WORD_BITS);
+        while (c->word_slots[slot] != 0)
+            slot = (slot + 1) % WORD_SLOTS;
+        c->word_slots[slot] = code + 1;
+    }
+}
+
+/* The code of a rule, RULES for any other word. */
+static inline uint32_t rule_of(const struct checker *c, uint64_t word) {
+    for (uint32_t slot = hash(word, WORD_BITS); c->word_slots[slot] != 0; slot = (slot + 1) % WORD_SLOTS) {
+        uint32_t code = c->word_slots[slot] - 1u;
+        if (word_key(rules[code].word) == word)
+            return code;
+    }
+    return RULES;
+}
+
+/* ---- A lines */
+
+/* Whether the field is a name that is not used yet; if so, enters it. */
+static bool enter_name(struct checker *c, const uint8_t *name, size_t length) {
+    if (length == 0 || length > 24 || name[0] < 'a' || name[0] > 'z')
+        return false;
+    uint64_t sum = 0;
+    for (size_t i = 0; i < length; i++) {
+        uint8_t b = name[i];
+        if (!((b >= 'a' && b <= 'z') || (b >= '0' && b <= '9') || b == '_'))
+            return false;
+        sum = sum * 31 + b;
+    }
+    uint32_t slot = hash(sum, NAME_BITS);
+    for (; c->name_slots[slot] != 0; slot = (slot + 1) % NAME_SLOTS) {
+        struct name used = c->names[c->name_slots[slot] - 1];
+        if (used.length == length && memcmp(c->text + used.start, name, length) == 0)
+            return false;
+    }
+    c->names[c->atoms] = (struct name){(uint16_t)(name - c->text), (uint16_t)length};
+    c->name_slots[slot] = (uint8_t)++c->atoms;
+    return true;
+}
+
+static uint32_t atom_line(struct checker *c, const uint8_t **at) {
+    uint32_t number;
+    if (!read_number(at, '\t', &number))
+        return BAD_LINE;
+    const uint8_t *name = *at, *p = name;
+    while (*p != '\n' && *p != '\t')
+        p++;
+    *at = p + 1;
+    if (*p == '\t')
+        return BAD_LINE;
+    if (c->stage != 0 || number != c->atoms)
+        return OUT_OF_ORDER;
+    if (number == ATOMS)
+        return FULL;
+    return enter_name(c, name, (size_t)(p - name)) ? ACCEPTED : BAD_NAME;
+}
+
+/* ---- F lines */
+
+static const char formula_words[][8] = {"bot", "atom", "not", "and", "or", "imp"};
+
+/* Whether an equal formula exists; if not, enters this one. */
+static bool formula_exists(struct checker *c, struct node n) {
+    uint32_t key = 1 + (n.word | (uint32_t)(n.first % FORMULAS) << 3 | (uint32_t)(n.second % FORMULAS) << 13);
+    uint32_t slot = hash(key, FORMULA_BITS);
+    for (; c->formula_slots[slot] != 0; slot = (slot + 1) % FORMULA_SLOTS)
+        if (c->formula_slots[slot] == key)
+            return true;
+    c->formula_slots[slot] = key;
+    return false;
+}
+
+/* Whether all atoms of a set, which is not empty, come after an atom. */
+static bool after(uint64_t set, uint32_t atom) { return set != 0 && (set & ((2ULL << atom) - 1)) == 0; }
+
+static struct traits traits_of(const struct checker *c, struct node n) {
+    struct traits t = {.negation = ABSENT, .literal = OTHER};
+    const struct traits *a = &c->traits[n.first % FORMULAS], *b = &c->traits[n.second % FORMULAS];
+    if (n.word >= NOT)
+        t.occurring = a->occurring;
+    if (n.word >= AND)
+        t.occurring |= b->occurring;
+    switch (n.word) {
+    case BOT:
+        t.literal = FALSUM;
+        break;
+    case ATOM:
+        t.literal = PLAIN;
+        t.atom = (uint8_t)n.first;
+        t.occurring = t.joined = t.chosen = 1ULL << n.first;
+        break;
+    case NOT:
+        t.atom = a->atom;
+        if (a->literal == FALSUM)
+            t.literal = VERUM;
+        else if (a->literal == NEGATED)
+            t.literal = DOUBLED;
+        else if (a->literal == PLAIN) {
+            t.literal = NEGATED;
+            t.joined = a->joined;
+        }
+        break;
+    case AND:
+        if ((a->literal == PLAIN || a->literal == NEGATED) && after(b->joined, a->atom)) {
+            t.joined = a->joined | b->joined;
+            t.chosen = a->chosen | b->chosen;
+        }
+        if (a->middles != 0 && c->nodes[n.first].word == OR && after(b->middles, a->atom))
+            t.middles = a->middles | b->middles;
+        break;
+    case OR:
+        if (a->literal == PLAIN && b->literal == NEGATED && a->atom == b->atom) {
+            t.atom = a->atom;
+            t.middles = a->occurring;
+        }
+        break;
+    }
+    return t;
+}
+
+static uint32_t formula_line(struct checker *c, const uint8_t **at) {
+    uint32_t number, word = 0, first = ABSENT, second = ABSENT;
+    if (!read_number(at, '\t', &number))
+        return BAD_LINE;
+    uint64_t key = read_word(c, at);
+    while (word_key(formula_words[word]) != key)
+        if (++word > IMP)
+            return BAD_LINE;
+    if (!(word == BOT ? read_dash(at, '\t') : read_number(at, '\t', &first)))
+        return BAD_LINE;
+    if (!(word <= NOT ? read_dash(at, '\n') : read_number(at, '\n', &second)))
+        return BAD_LINE;
+    if (c->stage > 1 || number != c->formulas)
+        return OUT_OF_ORDER;
+    if (number == FORMULAS)
+        return FULL;
+    if ((word == ATOM && first >= c->atoms) || (word >= NOT && first >= number) || (word >= AND && second >= number))
+        return NO_SUCH_ITEM;
+    struct node node = {(uint16_t)word, (uint16_t)first, (uint16_t)second};
+    if (formula_exists(c, node))
+        return FORMULA_AGAIN;
+    c->nodes[number] = node;
+    c->traits[number] = traits_of(c, node);
+    if (word == NOT)
+        c->traits[first].negation = (uint16_t)number;
+    c->formulas++;
+    c->stage = 1;
+    return ACCEPTED;
+}
+
+/* ---- N lines */
+
+struct side {
+    const uint16_t *at;
+    uint32_t count;
+};
+
+struct sequent {
+    struct side left, right;
+};
+
+static inline struct sequent sides_of(const struct checker *c, const struct row *r) {
+    return (struct sequent){{c->left + r->left_start, r->left_length}, {c->right + r->right_start, r->right_length}};
+}
+
+static inline bool contains(struct side s, uint32_t formula) {
+    while (s.count > 4) {
+        uint32_t half = s.count / 2;
+        if (s.at[half] <= formula)
+            s.at += half;
+        s.count -= half;
+    }
+    for (uint32_t i = 0; i < s.count; i++)
+        if (s.at[i] == formula)
+            return true;
+    return false;
+}
+
+/* Whether nothing is on one side alone but x, on a, and y and z, on b. */
+static inline bool differ_only_in(struct side a, uint32_t x, struct side b, uint32_t y, uint32_t z) {
+    uint32_t i = 0, j = 0;
+    for (;;) {
+        while (i + 4 <= a.count && j + 4 <= b.count && memcmp(a.at + i, b.at + j, 8) == 0) {
+            i += 4;
+            j += 4;
+        }
+        if (i == a.count && j == b.count)
+            return true;
+        if (j == b.count || (i < a.count && a.at[i] < b.at[j])) {
+            if (a.at[i++] != x)
+                return false;
+        } else if (i == a.count || b.at[j] < a.at[i]) {
+            if (b.at[j] != y && b.at[j] != z)
+                return false;
+            j++;
+        } else {
+            i++;
+            j++;
+        }
+    }
+}
+
+static inline bool same(struct side a, struct side b) {
+    return a.count == b.count && memcmp(a.at, b.at, a.count * sizeof *a.at) == 0;
+}
+
+/* The parts A and B of a principal formula. */
+struct parts {
+    uint32_t a, b;
+};
+
+static inline bool take_apart(const struct checker *c, enum form form, uint32_t principal, struct parts *parts) {
+    struct node n = c->nodes[principal];
+    *parts = (struct parts){principal, principal};
+    if (form == ANY)
+        return true;
+    if (form > ANY) {
+        if (n.word != NOT)
+            return false;
+        form = form - NOT_NOT + NOT;
+        n = c->nodes[n.first];
+    }
+    if (n.word != form)
+        return false;
+    if (form != BOT)
+        *parts = (struct parts){n.first, n.second};
+    return true;
+}
+
+static inline uint32_t part_number(const struct checker *c, struct parts parts, enum part part) {
+    switch (part) {
+    case A:
+        return parts.a;
+    case B:
+        return parts.b;
+    case NOT_A:
+        return c->traits[parts.a].negation;
+    case NOT_B:
+        return c->traits[parts.b].negation;
+    default:
+        return ABSENT;
+    }
+}
+
+/* Whether one side of the conclusion and of the premises is one set, with the principal formula where `own` tells and with what
+ * the rule adds to each premise. */
+static inline bool side_fits(const struct checker *c, struct parts parts, uint32_t principal, bool own, struct side conclusion,
+                             uint32_t premises, const struct side *sides, const uint8_t added[2][2]) {
+    if (own && !contains(conclusion, principal))
+        return false;
+    for (uint32_t i = 0; i < premises; i++) {
+        uint32_t y = part_number(c, parts, added[i][0]), z = part_number(c, parts, added[i][1]);
+        if ((added[i][0] != NOTHING && !contains(sides[i], y)) || (added[i][1] != NOTHING && !contains(sides[i], z)))
+            return false;
+        if (!differ_only_in(conclusion, own ? principal : ABSENT, sides[i], y, z))
+            return false;
+    }
+    /* But for what is added, each premise now has what the conclusion has, and the principal formula or not: both must, or neither. */
+    return premises < 2 || contains(sides[0], principal) == contains(sides[1], principal);
+}
+
+static bool schema_step(const struct checker *c, const struct rule *rule, uint32_t principal, struct sequent conclusion,
+                        const struct sequent *premises) {
+    struct parts parts;
+    if (!take_apart(c, rule->form, principal, &parts))
+        return false;
+    struct side left[2] = {premises[0].left, premises[1].left}, right[2] = {premises[0].right, premises[1].right};
+    return side_fits(c, parts, principal, rule->principal & LEFT, conclusion.left, rule->premises, left, rule->left)
+        && side_fits(c, parts, principal, rule->principal & RIGHT, conclusion.right, rule->premises, right, rule->right);
+}
+
+/* L => R,~p with only atoms in L, and p not among them. */
+static bool def_step(const struct checker *c, uint32_t principal, struct sequent conclusion) {
+    if (c->traits[principal].literal != NEGATED)
+        return false;
+    uint32_t p = c->nodes[principal].first;
+    for (uint32_t i = 0; i < conclusion.left.count; i++) {
+        uint32_t x = conclusion.left.at[i];
+        if (c->traits[x].literal != PLAIN || x == p)
+            return false;
+    }
+    return contains(conclusion.right, principal);
+}
+
+/* L => R,A and L,A => Q give L => R,Q. */
+static bool rcut_step(uint32_t a, struct sequent conclusion, const struct sequent *premises) {
+    struct side r = premises[0].right, q = premises[1].right;
+    if (!same(conclusion.left, premises[0].left) || !contains(premises[1].left, a) || !contains(r, a)
+        || !differ_only_in(conclusion.left, ABSENT, premises[1].left, a, a))
+        return false;
+    uint32_t i = 0, j = 0;
+    for (uint32_t n = 0; n < conclusion.right.count; n++) {
+        uint32_t x = conclusion.right.at[n];
+        if (i < r.count && r.at[i] == a && a < x)
+            i++;
+        bool in_r = i < r.count && r.at[i] == x, in_q = j < q.count && q.at[j] == x;
+        if (!in_r && !in_q)
+            return false;
+        i += in_r;
+        j += in_q;
+    }
+    if (i < r.count && r.at[i] == a)
+        i++;
+    return i == r.count && j == q.count;
+}
+
+/* L => K and the refutation of (L,~~S,~S' ; E) give L => R. */
+static bool unst_step(const struct checker *c, struct sequent conclusion, const struct sequent *premises) {
+    struct side l = conclusion.left, fixed = premises[1].left;
+    if (!same(l, premises[0].left) || premises[0].right.count != 1 || premises[1].right.count != 1)
+        return false;
+    uint64_t v = 0;
+    for (uint32_t i = 0; i < l.count; i++)
+        v |= c->traits[l.at[i]].occurring;
+    const struct traits *k = &c->traits[premises[0].right.at[0]], *e = &c->traits[premises[1].right.at[0]];
+    uint64_t s = k->chosen, doubled = 0, negated = 0;
+    if (k->joined != v || s == 0 || e->middles != s)
+        return false;
+    uint32_t j = 0;
+    for (uint32_t i = 0; i < fixed.count; i++) {
+        const struct traits *t = &c->traits[fixed.at[i]];
+        uint64_t p = 1ULL << t->atom;
+        bool in_l = j < l.count && l.at[j] == fixed.at[i];
+        j += in_l;
+        if (t->literal == DOUBLED && (in_l || (s & p)))
+            doubled |= p;
+        else if (t->literal == NEGATED && (in_l || (~s & v & p)))
+            negated |= p;
+        else if (!in_l)
+            return false;
+    }
+    return j == l.count && (s & ~doubled) == 0 && (v & ~s & ~negated) == 0;
+}
+
+/* Literals that do not meet. */
+static bool xini_step(const struct checker *c, struct sequent conclusion) {
+    uint64_t plain[2] = {0}, negated[2] = {0};
+    for (int right = 0; right < 2; right++) {
+        struct side s = right ? conclusion.right : conclusion.left;
+        for (uint32_t i = 0; i < s.count; i++) {
+            const struct traits *t = &c->traits[s.at[i]];
+            if (t->literal == PLAIN)
+                plain[right] |= 1ULL << t->atom;
+            else if (t->literal == NEGATED)
+                negated[right] |= 1ULL << t->atom;
+            else if (t->literal != (right ? FALSUM : VERUM))
+                return false;
+        }
+    }
+    return ((plain[0] & plain[1]) | (negated[0] & negated[1]) | (plain[0] & negated[0])) == 0;
+}
+
+static uint32_t judge_row(const struct checker *c, const struct row *r, bool named, uint32_t premises) {
+    const struct rule *rule = &rules[r->rule];
+    bool refutation = r->rule >= FIRST_REFUTATION;
+    if (named != (rule->form != UNST && rule->form != XINI) || premises != rule->premises)
+        return WRONG_PREMISES;
+    struct sequent conclusion = sides_of(c, r), above[2] = {0};
+    for (uint32_t i = 0; i < premises; i++) {
+        const struct row *premise = &c->rows[r->premises[i]];
+        if ((premise->rule >= FIRST_REFUTATION) != (refutation || (rule->form == UNST && i == 1)))
+            return WRONG_PREMISES;
+        above[i] = sides_of(c, premise);
+    }
+    bool step;
+    switch (rule->form) {
+    case DEF:
+        step = def_step(c, r->principal, conclusion);
+        break;
+    case RCUT:
+        step = rcut_step(r->principal, conclusion, above);
+        break;
+    case UNST:
+        step = unst_step(c, conclusion, above);
+        break;
+    case XINI:
+        step = xini_step(c, conclusion);
+        break;
+    default:
+        step = schema_step(c, rule, r->principal, conclusion, above);
+    }
+    return step ? ACCEPTED : WRONG_STEP;
+}
+
+/* Whether a number of the list is not below `held`. */
+static inline bool ahead(struct list list, uint32_t held) { return list.count > 0 && list.largest >= held; }
+
+static inline bool bad_side(struct list list) { return !list.rising || list.count > ON_SIDE; }
+
+static uint32_t row_line(struct checker *c, const uint8_t **at) {
+    uint32_t number, principal = ABSENT;
+    if (!read_number(at, '\t', &number))
+        return BAD_LINE;
+    uint32_t rule = rule_of(c, read_word(c, at));
+    if (rule == RULES)
+        return BAD_LINE;
+    bool named = **at != '-';
+    if (!(named ? read_number(at, '\t', &principal) : read_dash(at, '\t')))
+        return BAD_LINE;
+    uint16_t above[2] = {ABSENT, ABSENT};
+    struct list premises, left, right;
+    if (!read_list(at, '\t', above, 2, &premises)
+        || !read_list(at, '\t', c->left + c->left_used, ENTRIES - c->left_used, &left)
+        || !read_list(at, '\n', c->right + c->right_used, ENTRIES - c->right_used, &right))
+        return BAD_LINE;
+    if (c->stage > 2 || number != c->row_count)
+        return OUT_OF_ORDER;
+    if (number == ROWS || left.count > ENTRIES - c->left_used || right.count > ENTRIES - c->right_used)
+        return FULL;
+    if ((named && principal >= c->formulas) || ahead(premises, number) || ahead(left, c->formulas) || ahead(right, c->formulas))
+        return NO_SUCH_ITEM;
+    if (bad_side(left) || bad_side(right))
+        return BAD_SIDE;
+    struct row *row = &c->rows[number];
+    *row = (struct row){
+        .rule = (uint16_t)rule,
+        .principal = (uint16_t)principal,
+        .premises = {above[0], above[1]},
+        .left_start = (uint16_t)c->left_used,
+        .left_length = (uint16_t)left.count,
+        .right_start = (uint16_t)c->right_used,
+        .right_length = (uint16_t)right.count,
+    };
+    c->left_used += left.count;
+    c->right_used += right.count;
+    c->row_count++;
+    c->stage = 2;
+    return judge_row(c, row, named, premises.count);
+}
+
+/* ---- the C line */
+
+static uint32_t claim_line(struct checker *c, const uint8_t **at) {
+    uint16_t left_entries[ON_SIDE], right_entries[ON_SIDE];
+    struct list left, right;
+    if (!read_list(at, '\t', left_entries, ON_SIDE, &left) || !read_list(at, '\n', right_entries, ON_SIDE, &right))
+        return BAD_LINE;
+    if (c->stage > 2)
+        return OUT_OF_ORDER;
+    if (ahead(left, c->formulas) || ahead(right, c->formulas))
+        return NO_SUCH_ITEM;
+    if (bad_side(left) || bad_side(right))
+        return BAD_SIDE;
+    if (c->row_count == 0 || c->rows[c->row_count - 1].rule >= FIRST_REFUTATION)
+        return CLAIM_DIFFERS;
+    struct sequent last = sides_of(c, &c->rows[c->row_count - 1]);
+    if (!same(last.left, (struct side){left_entries, left.count}) || !same(last.right, (struct side){right_entries, right.count}))
+        return CLAIM_DIFFERS;
+    c->stage = 3;
+    return ACCEPTED;
+}
+
+/* ---- the text */
+
+static uint32_t judge_line(struct checker *c, const uint8_t **at) {
+    uint8_t kind = *(*at)++;
+    if (kind == '\n' || *(*at)++ != '\t')
+        return BAD_LINE;
+    switch (kind) {
+    case 'N':
+        return row_line(c, at);
+    case 'F':
+        return formula_line(c, at);
+    case 'A':
+        return atom_line(c, at);
+    case 'C':
+        return claim_line(c, at);
+    default:
+        return BAD_LINE;
+    }
+}
+
+static struct elk_answer judge_lines(struct checker *c, size_t text_length) {
+    const uint8_t *at = c->text, *text_end = c->text + text_length;
+    struct elk_answer answer = {ACCEPTED, 0};
+    while (at < c->end && answer.number == ACCEPTED) {
+        answer.line++;
+        answer.number = judge_line(c, &at);
+    }
+    if (answer.number != ACCEPTED)
+        return answer;
+    if (c->end != text_end)
+        return (struct elk_answer){BAD_LINE, answer.line + 1};
+    if (c->stage != 3)
+        return (struct elk_answer){NO_CLAIM, answer.line + 1};
+    return answer;
+}
+
+enum { TABLES = 5 };
+
+struct table {
+    uint16_t *at;
+    size_t length;
+};
+
+static void clear(const struct table lent[TABLES]) {
+    for (int i = 0; i < TABLES; i++)
+        memset(lent[i].at, 0, lent[i].length * sizeof *lent[i].at);
+}
+
+struct elk_answer elk_judge(const uint8_t *text, size_t text_length,
+                            uint16_t *names, size_t names_length,
+                            uint16_t *formulas, size_t formulas_length,
+                            uint16_t *rows, size_t rows_length,
+                            uint16_t *left, size_t left_length,
+                            uint16_t *right, size_t right_length) {
+    struct table lent[TABLES] = {
+        {names, names_length}, {formulas, formulas_length}, {rows, rows_length}, {left, left_length}, {right, right_length},
+    };
+    clear(lent);
+    if (names_length < 2 * ATOMS || formulas_length < 3 * FORMULAS || rows_length < 8 * ROWS || left_length < ENTRIES
+        || right_length < ENTRIES)
+        return (struct elk_answer){SHORT_TABLE, 0};
+    if (text_length > BYTES)
+        return (struct elk_answer){TOO_LONG, 0};
+
+    struct checker c;
+    memset(&c, 0, offsetof(struct checker, traits));
+    c.text = text;
+    c.end = text + text_length;
+    while (c.end > text && c.end[-1] != '\n')
+        c.end--;
+    c.names = (struct name *)names;
+    c.nodes = (struct node *)formulas;
+    c.rows = (struct row *)rows;
+    c.left = left;
+    c.right = right;
+    enter_words(&c);
+    struct elk_answer answer = judge_lines(&c, text_length);
+    if (answer.number != ACCEPTED)
+        clear(lent);
+    return answer;
+}
+
+struct elk_answer elk_check(const uint8_t *text, size_t text_length) {
+    uint16_t names[2 * ATOMS], formulas[3 * FORMULAS], rows[8 * ROWS], left[ENTRIES], right[ENTRIES];
+    return elk_judge(text, text_length, names, 2 * ATOMS, formulas, 3 * FORMULAS, rows, 8 * ROWS, left, ENTRIES, right, ENTRIES);
+}
