@@ -1,11 +1,11 @@
 -- The rule table of crate elk as numbers: eighteen for each rule, in the order of the rules' codes.
-use Prim.Native.Nat.{ℕ}
+use Prim.Native.Nat.{ℕ, _+_, _*_}
 use mathlib.Core.Bool.{Bool, true, false}
-use mathlib.Core.List.{List, [], _∷_, _++_}
+use mathlib.Core.List.{List, [], _∷_, _++_, map}
 use lib.ListN.{length, getD, replicate}
 use Rattle.format.specs.Tables.{joinAll}
 use Rattle.elk.specs.Sequent.{Kind, elk, refutation}
-use Rattle.elk.specs.Rules.{Rule, Form, any, falsity, negation, conjunction, disjunction, implication, double-negation, negated-conjunction, negated-disjunction, negated-implication, Part, Added, Schema, Entry, schema, default, cut, unstable, initial, entry, kindOf, hasPrincipal, premiseKinds}
+use Rattle.elk.specs.Rules.{Rule, rules, Form, any, falsity, negation, conjunction, disjunction, implication, double-negation, negated-conjunction, negated-disjunction, negated-implication, Part, Added, Schema, Entry, schema, default, cut, unstable, initial, entry, kindOf, hasPrincipal, premiseKinds}
 
 -- A form is numbered like the word of the formula that it asks for, and four more than the word under the negation; `any`
 -- has the number of no compound word.
@@ -78,3 +78,12 @@ entryNumbers e = stepNumber e ∷ kindNumber (kindOf e) ∷ truthNumber (hasPrin
 
 abbrev pub ruleNumbers : Rule → List ℕ
 ruleNumbers r = entryNumbers (entry r)
+
+-- the octal digits of a list after those of n
+abbrev pub packedFrom : ℕ → List ℕ → ℕ
+packedFrom n [] = n
+packedFrom n (x ∷ xs) = packedFrom (n * 8 + x) xs
+
+-- the numbers of each rule as the octal digits of one number, in the order of the rules' codes
+abbrev pub packedRules : List ℕ
+packedRules = map (λ (r : Rule). packedFrom 0 (ruleNumbers r)) rules

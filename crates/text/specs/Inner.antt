@@ -1,12 +1,13 @@
 -- What the functions that are not `pub` answer.
 use Prim.Native.Nat.{ℕ, _+_, _*_}
 use mathlib.Core.Path.{_≡_}
-use mathlib.Core.Bool.{Bool, true, _&&_, _||_}
+use mathlib.Core.Bool.{Bool, true, cond, _&&_, _||_}
 use mathlib.Core.List.{List, [], _∷_}
 use mathlib.Core.Option.{some}
 use lib.Dec.{eqb, leb, ltb}
 use lib.ListN.{length}
-use Rattle.format.specs.Text.{Bytes, comma, all, isDigit, isLetter, numberOf, sameList}
+use Rattle.elk.specs.Rules.{Rule, codeOf, wordOf}
+use Rattle.format.specs.Text.{Bytes, bytes, comma, all, isDigit, isLetter, numberOf, sameList}
 use Rattle.text.specs.Scan.{nextAt}
 use Rattle.text.specs.Answers.{between, numberAs, laidOver, listedAs}
 use Rattle.text.specs.declared.Number.{Number}
@@ -43,3 +44,12 @@ isShort word = leb (length word) 7 && all (λ b. ltb b 256) word
 -- a number that is the key of a short word exactly if the field is that word
 abbrev pub IsKey : Bytes → ℕ → Type 0
 IsKey field key = (word : Bytes) → isShort word ≡ true → eqb key (keyOf word) ≡ sameList field word
+
+-- the key of a rule's word
+abbrev pub wordKey : Rule → ℕ
+wordKey r = keyOf (bytes (wordOf r))
+
+-- the code of the rule of these whose word has this key; 37 where there is none
+abbrev pub codeAmong : List Rule → ℕ → ℕ
+codeAmong [] key = 37
+codeAmong (r ∷ rs) key = cond (eqb key (wordKey r)) (codeOf r) (codeAmong rs key)

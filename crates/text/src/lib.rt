@@ -7,11 +7,12 @@ ghost use mathlib.Core.Option.{some};
 ghost use Prim.Native.Nat.{ℕ, _+_, _*_, _^_, _≤_, _<_, min};
 ghost use lib.ListN.{length, set};
 ghost use Rattle.format.specs.Text.{is, isDigit, isLetter, isName, numberOf, principalOf};
+ghost use Rattle.elk.specs.Rules.{rules};
 ghost use Rattle.format.specs.Line.{ruleOf};
 ghost use Rattle.text.specs.Scan.{nextAt};
 ghost use Rattle.text.specs.Words.{kindOf, formulaWord, ruleCode};
 ghost use Rattle.text.specs.Answers.{numberAs, principalAs, Fielded, listedAs, ListedInto};
-ghost use Rattle.text.specs.Inner.{nameByte, IsKey, entryAt, Holds};
+ghost use Rattle.text.specs.Inner.{nameByte, IsKey, codeAmong, entryAt, Holds};
 
 // ---- parts
 
@@ -393,171 +394,55 @@ pub fn formula_word(field: &[u8]) -> u32
     6
 }
 
-// The keys of the rules' words in the order of their codes, each in two halves. A table is built anew at each call, and one of
-// narrow numbers is built faster.
-const LOWS: [u32; 37] = [
-    0x1666564, // def
-    0x656d6173, // same
-    0x6c646e61, // andl
-    0x72646e61, // andr
-    0x17277, // wr
-    0x1746f62, // bot
-    0x172726f, // orr
-    0x16c726f, // orl
-    0x6c746f6e, // notl
-    0x72706d69, // impr
-    0x6c706d69, // impl
-    0x72746f6e, // notr
-    0x74756372, // rcut
-    0x74736e75, // unst
-    0x696e6978, // xini
-    0x6c6e6e78, // xnnl
-    0x726e6e78, // xnnr
-    0x646e6178, // xandl
-    0x646e6178, // xandr1
-    0x646e6178, // xandr2
-    0x72726f78, // xorr
-    0x6c726f78, // xorl1
-    0x6c726f78, // xorl2
-    0x706d6978, // ximpl1
-    0x706d6978, // ximpl2
-    0x706d6978, // ximpl3
-    0x706d6978, // ximpr1
-    0x706d6978, // ximpr2
-    0x6d696e78, // xnimpl
-    0x6d696e78, // xnimpr1
-    0x6d696e78, // xnimpr2
-    0x6e616e78, // xnandl1
-    0x6e616e78, // xnandl2
-    0x6e616e78, // xnandr
-    0x726f6e78, // xnorl
-    0x726f6e78, // xnorr1
-    0x726f6e78, // xnorr2
-];
-
-const HIGHS: [u32; 37] = [
-    0x0, // def
-    0x1, // same
-    0x1, // andl
-    0x1, // andr
-    0x0, // wr
-    0x0, // bot
-    0x0, // orr
-    0x0, // orl
-    0x1, // notl
-    0x1, // impr
-    0x1, // impl
-    0x1, // notr
-    0x1, // rcut
-    0x1, // unst
-    0x1, // xini
-    0x1, // xnnl
-    0x1, // xnnr
-    0x16c, // xandl
-    0x13172, // xandr1
-    0x13272, // xandr2
-    0x1, // xorr
-    0x131, // xorl1
-    0x132, // xorl2
-    0x1316c, // ximpl1
-    0x1326c, // ximpl2
-    0x1336c, // ximpl3
-    0x13172, // ximpr1
-    0x13272, // ximpr2
-    0x16c70, // xnimpl
-    0x1317270, // xnimpr1
-    0x1327270, // xnimpr2
-    0x1316c64, // xnandl1
-    0x1326c64, // xnandl2
-    0x17264, // xnandr
-    0x16c, // xnorl
-    0x13172, // xnorr1
-    0x13272, // xnorr2
-];
-
-// The code of the one rule whose word a key can be, by the key's remainder. An entry that no word leads to is 0.
-const SLOTS: [u8; 64] = [
-    5,
-    23,
-    30,
-    0,
-    25,
-    33,
-    0,
-    27,
-    0,
-    2,
-    1,
-    0,
-    16,
-    6,
-    0,
-    15,
-    0,
-    0,
-    35,
-    0,
-    29,
-    0,
-    0,
-    3,
-    0,
-    12,
-    24,
-    0,
-    0,
-    21,
-    7,
-    0,
-    0,
-    22,
-    0,
-    18,
-    0,
-    34,
-    32,
-    0,
-    14,
-    0,
-    0,
-    36,
-    0,
-    13,
-    26,
-    10,
-    0,
-    11,
-    0,
-    0,
-    8,
-    28,
-    17,
-    4,
-    31,
-    0,
-    0,
-    20,
-    19,
-    9,
-    0,
-    0,
-];
-
-fn joined(low: u32, high: u32) -> u64
-    ensures { λ r. ⌜ r ≡ high * 4294967296 + low ⌝ }
+// The code of the rule whose word has this key; 37 for any other.
+fn rule_of_key(key: u64) -> u32
+    ensures { λ r. ⌜ r ≡ codeAmong rules key ⌝ }
 {
-    (high as u64) * 4294967296 + (low as u64)
+    match key {
+        0x1666564 => 0, // def
+        0x1656d6173 => 1, // same
+        0x16c646e61 => 2, // andl
+        0x172646e61 => 3, // andr
+        0x17277 => 4, // wr
+        0x1746f62 => 5, // bot
+        0x172726f => 6, // orr
+        0x16c726f => 7, // orl
+        0x16c746f6e => 8, // notl
+        0x172706d69 => 9, // impr
+        0x16c706d69 => 10, // impl
+        0x172746f6e => 11, // notr
+        0x174756372 => 12, // rcut
+        0x174736e75 => 13, // unst
+        0x1696e6978 => 14, // xini
+        0x16c6e6e78 => 15, // xnnl
+        0x1726e6e78 => 16, // xnnr
+        0x16c646e6178 => 17, // xandl
+        0x13172646e6178 => 18, // xandr1
+        0x13272646e6178 => 19, // xandr2
+        0x172726f78 => 20, // xorr
+        0x1316c726f78 => 21, // xorl1
+        0x1326c726f78 => 22, // xorl2
+        0x1316c706d6978 => 23, // ximpl1
+        0x1326c706d6978 => 24, // ximpl2
+        0x1336c706d6978 => 25, // ximpl3
+        0x13172706d6978 => 26, // ximpr1
+        0x13272706d6978 => 27, // ximpr2
+        0x16c706d696e78 => 28, // xnimpl
+        0x13172706d696e78 => 29, // xnimpr1
+        0x13272706d696e78 => 30, // xnimpr2
+        0x1316c646e616e78 => 31, // xnandl1
+        0x1326c646e616e78 => 32, // xnandl2
+        0x172646e616e78 => 33, // xnandr
+        0x16c726f6e78 => 34, // xnorl
+        0x13172726f6e78 => 35, // xnorr1
+        0x13272726f6e78 => 36, // xnorr2
+        _ => 37,
+    }
 }
 
 // The code of the rule whose word this is; 37 for any other.
 pub fn rule_word(field: &[u8]) -> u32
     ensures { λ r. ⌜ r ≡ ruleCode (ruleOf (now (field .entry))) ⌝ }
 {
-    let key = pack(field);
-    let slot = (key % 366865 % 64) as usize;
-    let code = SLOTS[slot] as usize;
-    if joined(LOWS[code], HIGHS[code]) == key {
-        return code as u32;
-    }
-    37
+    rule_of_key(pack(field))
 }
