@@ -24,6 +24,12 @@ pub struct Case {
     pub line: usize,
 }
 
+impl Case {
+    pub fn group(&self) -> &str {
+        self.name.split_once('/').expect("a case is in a group").0
+    }
+}
+
 /// All cases, sorted by name.
 pub fn cases() -> Vec<Case> {
     let groups = [

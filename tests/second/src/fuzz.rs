@@ -2,130 +2,155 @@
 //!
 //! Every text is judged by set algebra and by search; what is accepted must be true
 //! in the brute-force semantics, row by row; its tables must give the text back; and
-//! what was generated as a derivation must be accepted.
+//! an answer that is known beforehand must be given.
 
 use crate::draft::list;
 use crate::formula::{Atoms, Formulas};
-use crate::generate;
-use crate::judge::{Deciding, Derivation, Judgement, LEAST, Tables, judge, judge_closely};
-use crate::mutate::mutate;
-use crate::random::Random;
+use crate::judge::{Deciding, Derivation, Judgement, judge, judge_closely};
+use crate::line::{self, Line};
 use crate::rules::ELK;
+use crate::sample::{Sample, samples};
 use crate::semantics::Interpretations;
+use crate::sequent::Sequent;
 use std::cell::Cell;
 use std::collections::BTreeMap;
 use std::fmt;
 use std::panic::{AssertUnwindSafe, catch_unwind};
+use std::path::{Path, PathBuf};
+use std::process::ExitCode;
 
-/// How often each number and each rule came up.
+/// How often each number and each rule came up, and how much was confirmed.
 #[derive(Default)]
-pub struct Report {
-    pub passed: usize,
-    pub failed: usize,
+struct Report {
+    passed: usize,
+    failed: usize,
     numbers: [usize; 14],
-    accepted: BTreeMap<usize, usize>,
-    wrong: BTreeMap<usize, usize>,
+    rules: BTreeMap<usize, RowCounts>,
     rows_compared: Cell<usize>,
     rows_valued: usize,
+    claims_confirmed: usize,
+    claims_too_large: usize,
 }
 
-/// Judges `count` texts.
-pub fn run(seed: u64, count: usize) -> Report {
-    let mut random = Random::new(seed);
+/// What became of the rows of one rule.
+#[derive(Clone, Copy, Default)]
+struct RowCounts {
+    passed: usize,
+    wrong_premises: usize,
+    wrong_step: usize,
+}
+
+/// The command `PROGRAM SEED COUNT`: judges random texts and prints what came up.
+/// `also` is asked about each text and its judgement.
+pub fn command(also: impl FnMut(&Sample, &Judgement) -> Result<(), String>) -> ExitCode {
+    let numbers: Result<Vec<u64>, _> = std::env::args().skip(1).map(|word| word.parse()).collect();
+    let Ok(&[seed, count]) = numbers.as_deref() else {
+        eprintln!("usage: PROGRAM SEED COUNT");
+        return ExitCode::FAILURE;
+    };
+    let report = run(seed, count as usize, also);
+    println!("{report}");
+    if report.failed == 0 { ExitCode::SUCCESS } else { ExitCode::FAILURE }
+}
+
+fn run(seed: u64, count: usize, mut also: impl FnMut(&Sample, &Judgement) -> Result<(), String>) -> Report {
     let mut report = Report::default();
-    while report.passed + report.failed < count {
-        let text = generate::any(&mut random).text();
-        report.check(&text, &LEAST, Some(0));
-        for _ in 0..6 {
-            report.check(&mutate(&mut random, &text), &LEAST, None);
-        }
-        if random.once_in(50) {
-            report.check(&text, &one_short(&mut random), Some(1));
+    for (index, sample) in samples(seed).take(count).enumerate() {
+        let check = || report.check(&sample).and_then(|judgement| also(&sample, &judgement));
+        let checked = catch_unwind(AssertUnwindSafe(check));
+        match checked.unwrap_or_else(|_| Err("a panic".into())) {
+            Ok(()) => report.passed += 1,
+            Err(what) => {
+                report.failed += 1;
+                let kept = keep(&sample.text, seed, index).display().to_string();
+                eprintln!("text {index} of seed {seed}, in {kept}: {what}; lent were {:?}", sample.lent);
+            }
         }
     }
     report
 }
 
-fn one_short(random: &mut Random) -> Tables<usize> {
-    let mut lent = LEAST;
-    let table = random.below(5);
-    let lengths = [&mut lent.names, &mut lent.formulas, &mut lent.rows, &mut lent.left, &mut lent.right];
-    *lengths.into_iter().nth(table).expect("there are five tables") -= 1;
-    lent
+/// Writes a text that failed into a file.
+fn keep(text: &[u8], seed: u64, index: usize) -> PathBuf {
+    let folder = Path::new(env!("CARGO_MANIFEST_DIR")).join("target/failures");
+    let file = folder.join(format!("{seed}-{index}.txt"));
+    std::fs::create_dir_all(folder).and_then(|()| std::fs::write(&file, text)).expect("a file for the text");
+    file
 }
 
 impl Report {
-    fn check(&mut self, text: &[u8], lent: &Tables<usize>, expected: Option<u16>) {
-        let checked = catch_unwind(AssertUnwindSafe(|| self.judged(text, lent, expected)));
-        match checked.unwrap_or_else(|_| Err("a panic".into())) {
-            Ok(()) => self.passed += 1,
-            Err(what) => {
-                self.failed += 1;
-                eprintln!("{what}, in the text\n{}", text.escape_ascii());
-            }
-        }
-    }
-
-    fn judged(&mut self, text: &[u8], lent: &Tables<usize>, expected: Option<u16>) -> Result<(), String> {
+    fn check(&mut self, sample: &Sample) -> Result<Judgement, String> {
+        let Sample { text, lent, answer } = sample;
         let (judgement, derivation) = judge_closely(text, lent, Deciding::Compared(&self.rows_compared));
-        self.numbers[judgement.number as usize] += 1;
+        self.count(text, &judgement);
         if judgement != judge(text, lent) {
             return Err("another answer by algebra alone".into());
         }
-        if expected.is_some_and(|number| number != judgement.number) {
-            return Err(format!("number {} for {expected:?}", judgement.number));
+        let given = (judgement.number, judgement.line);
+        if answer.is_some_and(|known| known != given) {
+            return Err(format!("{given:?} is answered for {answer:?}"));
         }
         match derivation {
-            Some(derivation) => self.accepted(text, &judgement, &derivation),
-            None => self.refused(text, &judgement),
+            Some(_) if rebuilt(text, &judgement) != *text => {
+                return Err("tables that give another text".into());
+            }
+            Some(derivation) => self.value(&derivation)?,
+            None if !judgement.all_zero() => return Err("tables that aren't zero after a refusal".into()),
+            None => {}
+        }
+        Ok(judgement)
+    }
+
+    /// Counts the number, the rows before the answer's line, which passed, and the row
+    /// on that line if it is wrong.
+    fn count(&mut self, text: &[u8], judgement: &Judgement) {
+        self.numbers[judgement.number as usize] += 1;
+        let mut lines = text.split(|&byte| byte == b'\n').map(rule_of);
+        for rule in lines.by_ref().take(judgement.line.saturating_sub(1)).flatten() {
+            self.rules.entry(rule).or_default().passed += 1;
+        }
+        match (judgement.number, lines.next().flatten()) {
+            (10, Some(rule)) => self.rules.entry(rule).or_default().wrong_premises += 1,
+            (11, Some(rule)) => self.rules.entry(rule).or_default().wrong_step += 1,
+            _ => {}
         }
     }
 
-    fn accepted(
-        &mut self,
-        text: &[u8],
-        judgement: &Judgement,
-        derivation: &Derivation,
-    ) -> Result<(), String> {
-        for row in used_records(&judgement.tables.rows, judgement.used.rows, 8) {
-            *self.accepted.entry(row[0] as usize).or_default() += 1;
+    /// Asks of the claim and of every row whether it is true, where the atoms are few.
+    fn value(&mut self, derivation: &Derivation) -> Result<(), String> {
+        let Derivation { formulas, rows, claim } = derivation;
+        match few_atoms(formulas, [claim]) {
+            None => self.claims_too_large += 1,
+            Some(atoms) if Interpretations::over(formulas, atoms).entails(claim) => {
+                self.claims_confirmed += 1
+            }
+            Some(_) => return Err("the claim is accepted and fails".into()),
         }
-        if rebuilt(text, judgement) != text {
-            return Err("tables that give another text".into());
-        }
-        let Some(atoms) = few_atoms(derivation) else { return Ok(()) };
-        let mut interpretations = Interpretations::over(&derivation.formulas, atoms);
-        for (number, (kind, sequent)) in derivation.rows.iter().enumerate() {
+        let Some(atoms) = few_atoms(formulas, rows.iter().map(|(_, sequent)| sequent)) else { return Ok(()) };
+        let mut interpretations = Interpretations::over(formulas, atoms);
+        for (number, (kind, sequent)) in rows.iter().enumerate() {
             self.rows_valued += 1;
             if !interpretations.true_row(*kind, sequent) {
                 return Err(format!("row {number} is accepted and false"));
             }
         }
-        match interpretations.entails(&derivation.claim) {
-            true => Ok(()),
-            false => Err("the claim is accepted and fails".into()),
-        }
+        Ok(())
     }
+}
 
-    fn refused(&mut self, text: &[u8], judgement: &Judgement) -> Result<(), String> {
-        if judgement.number == 11 {
-            let line = text.split(|&byte| byte == b'\n').nth(judgement.line - 1).expect("the line exists");
-            let rule = line.split(|&byte| byte == b'\t').nth(2).expect("a row has a rule");
-            let code = ELK.code(&String::from_utf8_lossy(rule)).expect("a known rule");
-            *self.wrong.entry(code).or_default() += 1;
-        }
-        let zero =
-            judgement.tables.clone().listed().iter().all(|(_, table)| table.iter().all(|&entry| entry == 0));
-        if zero { Ok(()) } else { Err("tables that aren't zero after a refusal".into()) }
+/// The code of the rule that a line has, if it is a row.
+fn rule_of(line: &[u8]) -> Option<usize> {
+    match line::read(line, 0)? {
+        Line::Row { row, .. } => Some(row.rule),
+        _ => None,
     }
 }
 
 /// The atoms that occur, if they are few enough to try every pair.
-fn few_atoms(derivation: &Derivation) -> Option<Atoms> {
-    let formulas: &Formulas = &derivation.formulas;
-    let sides = derivation.rows.iter().flat_map(|(_, s)| s.antecedent.iter().chain(&s.succedent));
+fn few_atoms<'a>(formulas: &Formulas, sequents: impl IntoIterator<Item = &'a Sequent>) -> Option<Atoms> {
+    let sides = sequents.into_iter().flat_map(|s| s.antecedent.iter().chain(&s.succedent));
     let atoms = formulas.atoms_of(sides);
-    (atoms.count_ones() <= 5).then_some(atoms)
+    (atoms.count_ones() <= 6).then_some(atoms)
 }
 
 fn used_records(table: &[u16], used: usize, width: usize) -> impl Iterator<Item = &[u16]> {
@@ -173,21 +198,37 @@ impl fmt::Display for Report {
         for (number, count) in self.numbers.iter().enumerate() {
             writeln!(f, "{number}\t{count}")?;
         }
-        writeln!(f, "rule\trows accepted\trows refused with 11")?;
+        writeln!(f, "rule\trows passed\trefused with 10\trefused with 11")?;
         for (code, rule) in ELK.rules.iter().enumerate() {
-            let count = |counts: &BTreeMap<usize, usize>| counts.get(&code).copied().unwrap_or(0);
-            writeln!(f, "{}\t{}\t{}", rule.name, count(&self.accepted), count(&self.wrong))?;
+            let RowCounts { passed, wrong_premises, wrong_step } =
+                self.rules.get(&code).copied().unwrap_or_default();
+            writeln!(f, "{}\t{passed}\t{wrong_premises}\t{wrong_step}", rule.name)?;
         }
         writeln!(f, "{} rows decided alike by algebra and by search", self.rows_compared.get())?;
-        writeln!(f, "{} accepted rows are true by brute force", self.rows_valued)?;
+        writeln!(f, "{} rows of accepted texts are true by brute force", self.rows_valued)?;
+        let (confirmed, too_large) = (self.claims_confirmed, self.claims_too_large);
+        writeln!(
+            f,
+            "{confirmed} accepted claims hold by brute force, {too_large} have too many atoms for it"
+        )?;
         write!(f, "{} passed, {} failed", self.passed, self.failed)
     }
 }
 
 #[cfg(test)]
 mod tests {
+    use super::*;
+
+    /// A run of thousands has no failure, and every number and every rule comes up.
     #[test]
-    fn a_short_run_has_no_failure() {
-        assert_eq!(super::run(7, 500).failed, 0);
+    fn a_run_of_thousands() {
+        let report = run(7, 4_000, |_, _| Ok(()));
+        assert_eq!(report.failed, 0);
+        assert!(report.numbers.iter().all(|&count| count > 5), "{report}");
+        let common = |counts: &RowCounts| {
+            let RowCounts { passed, wrong_premises, wrong_step } = *counts;
+            passed > 5 && wrong_premises > 0 && wrong_step > 0
+        };
+        assert!(report.rules.len() == ELK.rules.len() && report.rules.values().all(common), "{report}");
     }
 }

@@ -17,6 +17,13 @@ pub struct Step<'a> {
     pub conclusion: &'a Sequent,
 }
 
+impl Step<'_> {
+    /// V of `unst`, whose L is the conclusion's whole antecedent.
+    fn atoms(&self, formulas: &Formulas) -> Atoms {
+        formulas.atoms_of(&self.conclusion.antecedent)
+    }
+}
+
 /// Decides by set algebra; serves sides of any length.
 pub fn by_algebra(calculus: &Calculus, formulas: &mut Formulas, step: &Step) -> bool {
     let Some(bindings) = calculus.bind(formulas, step.rule, step.principal) else {
@@ -24,7 +31,10 @@ pub fn by_algebra(calculus: &Calculus, formulas: &mut Formulas, step: &Step) -> 
     };
     let given = match step.rule.name {
         "unst" => match chosen_atoms(formulas, step) {
-            Some(chosen) => stability_sets(formulas, step, chosen),
+            Some(chosen) => {
+                let atoms = step.atoms(formulas);
+                stability(formulas, atoms, chosen)
+            }
             None => return false,
         },
         _ => Sets::new(),
@@ -189,14 +199,8 @@ fn all_solutions(equations: &[Equation]) -> Option<Vec<Sets>> {
     Some((0..1 << (width * unknowns.len())).filter(solves).map(sets).collect())
 }
 
-/// The sets that `unst` names beside L and R, for one choice of S among the atoms
-/// of L. S isn't empty.
-fn stability_sets(formulas: &mut Formulas, step: &Step, chosen: Atoms) -> Sets {
-    let atoms = formulas.atoms_of(&step.conclusion.antecedent);
-    stability(formulas, atoms, chosen)
-}
-
-/// K, E, ~~S and ~S' where V is `atoms` and S is `chosen`, not empty.
+/// The sets that `unst` names beside L and R: K, E, ~~S and ~S' where V is `atoms` and
+/// S is `chosen`, not empty.
 pub fn stability(formulas: &mut Formulas, atoms: Atoms, chosen: Atoms) -> Sets {
     let mut sets = Sets::new();
     let (mut literals, mut decided) = (vec![], vec![]);
@@ -229,7 +233,7 @@ fn join(formulas: &mut Formulas, list: &[Formula]) -> Formula {
 /// an S that isn't empty. That K stands alone is left to the equations.
 fn chosen_atoms(formulas: &Formulas, step: &Step) -> Option<Atoms> {
     let mut rest = *step.premises[0].succedent.first()?;
-    let atoms: Vec<u16> = rising(formulas.atoms_of(&step.conclusion.antecedent)).collect();
+    let atoms: Vec<u16> = rising(step.atoms(formulas)).collect();
     let mut chosen = 0;
     for (place, &k) in atoms.iter().enumerate() {
         let literal = match formulas.node(rest) {
@@ -254,12 +258,12 @@ fn choices_of_s(formulas: &mut Formulas, step: &Step) -> Option<Vec<Sets>> {
     if step.rule.name != "unst" {
         return Some(vec![Sets::new()]);
     }
-    let atoms = formulas.atoms_of(&step.conclusion.antecedent);
+    let atoms = step.atoms(formulas);
     if atoms.count_ones() > 6 {
         return None;
     }
     let chosen = subsets(atoms).filter(|&s| s != 0);
-    Some(chosen.map(|s| stability_sets(formulas, step, s)).collect())
+    Some(chosen.map(|s| stability(formulas, atoms, s)).collect())
 }
 
 #[cfg(test)]

@@ -16,5 +16,6 @@ pub mod notation;
 pub mod prove;
 pub mod random;
 pub mod rules;
+pub mod sample;
 pub mod semantics;
 pub mod sequent;

@@ -1,9 +1,11 @@
 //! Damage to texts: to bytes, lines, fields, numbers, sides, premises and rules, and
-//! growth beyond the limits. Most of it leaves the text nearly right.
+//! growth up to the limits and beyond. Most of it leaves the text nearly right.
 
 use crate::draft::list;
+use crate::judge::{MOST_ATOMS, MOST_BYTES, MOST_FORMULAS, MOST_ROWS};
 use crate::random::Random;
 use crate::rules::ELK;
+use std::collections::BTreeSet;
 
 /// A text as lines of fields, without the last LF.
 type Fields = Vec<Vec<String>>;
@@ -14,7 +16,6 @@ pub fn mutate(random: &mut Random, text: &[u8]) -> Vec<u8> {
     for _ in 0..1 + random.below(2) {
         text = match random.below(10) {
             0 => change_bytes(random, text),
-            1 if random.once_in(4) => grow(random, &text),
             _ => change_fields(random, &text),
         };
     }
@@ -44,14 +45,16 @@ fn change_fields(random: &mut Random, text: &[u8]) -> Vec<u8> {
     if lines.is_empty() {
         return b"C\t-\t-\n".to_vec();
     }
-    match random.below(16) {
-        0 => change_lines(random, &mut lines),
-        1 => change_any_field(random, &mut lines),
-        6 => repeat_formula(random, &mut lines),
-        2 => change_row(random, &mut lines, change_rule),
-        3 => change_row(random, &mut lines, change_premises),
-        4 => change_row(random, &mut lines, change_principal),
-        5 | 7 => change_last_row_and_claim(random, &mut lines),
+    match random.below(64) {
+        0 => grow(random, &mut lines),
+        1 => lengthen(random, &mut lines),
+        2..8 => change_lines(random, &mut lines),
+        8..12 => change_any_field(random, &mut lines),
+        12..16 => repeat_formula(random, &mut lines),
+        16..24 => change_row(random, &mut lines, change_rule),
+        24..32 => change_row(random, &mut lines, change_premises),
+        32..36 => change_row(random, &mut lines, change_principal),
+        36..44 => change_last_row_and_claim(random, &mut lines),
         _ => change_row(random, &mut lines, change_side),
     }
     lines.iter().map(|fields| fields.join("\t") + "\n").collect::<String>().into_bytes()
@@ -59,10 +62,11 @@ fn change_fields(random: &mut Random, text: &[u8]) -> Vec<u8> {
 
 fn change_lines(random: &mut Random, lines: &mut Fields) {
     let (at, other) = (random.below(lines.len()), random.below(lines.len()));
-    match random.below(4) {
+    match random.below(5) {
         0 => drop(lines.remove(at)),
         1 => lines.swap(at, other),
         2 => lines.insert(other, lines[at].clone()),
+        3 => lines.truncate(at),
         _ => lines.push(lines[at].clone()),
     }
 }
@@ -102,18 +106,23 @@ fn number(random: &mut Random) -> String {
     }
 }
 
-/// Changes one row, of seven fields, if there is one; often one of the last, on which
-/// no other rows rest.
+/// Changes one row, of seven fields, if there is one: one of the last, on which no
+/// other rows rest, or one of any rule that the text has.
 fn change_row(random: &mut Random, lines: &mut Fields, change: fn(&mut Random, &mut [String], usize)) {
     let formulas = lines.iter().filter(|fields| fields[0] == "F").count();
     let mut rows: Vec<usize> = (0..lines.len()).rev().filter(|&k| is_row(&lines[k])).collect();
+    if rows.is_empty() {
+        return;
+    }
     if random.once_in(2) {
         rows.truncate(4);
+    } else {
+        let rules: BTreeSet<&str> = rows.iter().map(|&k| lines[k][2].as_str()).collect();
+        let rule = random.pick(&Vec::from_iter(rules));
+        rows.retain(|&k| lines[k][2] == rule);
     }
-    if !rows.is_empty() {
-        let row = random.pick(&rows);
-        change(random, &mut lines[row], formulas);
-    }
+    let row = random.pick(&rows);
+    change(random, &mut lines[row], formulas);
 }
 
 fn is_row(fields: &[String]) -> bool {
@@ -175,26 +184,55 @@ fn numbers(field: &str) -> Vec<usize> {
 }
 
 /// More lines of one kind, up to a limit, and often one over it.
-fn grow(random: &mut Random, text: &[u8]) -> Vec<u8> {
-    let Ok(written) = str::from_utf8(text) else { return text.to_vec() };
-    let (kind, most) = random.pick(&[("A", 64), ("F", 1_024), ("N", 2_048)]);
+fn grow(random: &mut Random, lines: &mut Fields) {
+    let (kind, most) = random.pick(&[("A", MOST_ATOMS), ("F", MOST_FORMULAS), ("N", MOST_ROWS)]);
     let most = most + random.below(2);
-    let lines: Vec<&str> = written.lines().collect();
-    let Some(last) = lines.iter().rposition(|line| line.starts_with(kind)) else { return text.to_vec() };
-    let held = lines.iter().filter(|line| line.starts_with(kind)).count();
-    let more = (held..most).map(|k| match kind {
-        "A" => format!("A\t{k}\tmore_{k}"),
-        "F" => format!("F\t{k}\tnot\t{}\t-", k - 1),
-        _ => {
-            let fields: Vec<&str> = lines[last].split('\t').skip(2).collect();
-            format!("N\t{k}\t{}", fields.join("\t"))
+    let Some(last) = lines.iter().rposition(|fields| fields[0] == kind) else { return };
+    let held = lines.iter().filter(|fields| fields[0] == kind).count();
+    let more: Fields = (held..most)
+        .map(|k| match kind {
+            "A" => vec![kind.into(), k.to_string(), format!("more_{k}")],
+            "F" => vec![kind.into(), k.to_string(), "not".into(), (k - 1).to_string(), "-".into()],
+            _ => renumbered(&lines[last], k),
+        })
+        .collect();
+    lines.splice(last + 1..last + 1, more);
+}
+
+/// Copies of the longest row, then one of the last, and longer names, until the text
+/// has the most bytes or one more.
+fn lengthen(random: &mut Random, lines: &mut Fields) {
+    let length = |fields: &Vec<String>| fields.iter().map(|field| field.len() + 1).sum::<usize>();
+    let rows: Vec<usize> = (0..lines.len()).filter(|&k| is_row(&lines[k])).collect();
+    let Some(longest) = rows.iter().copied().max_by_key(|&k| length(&lines[k])) else { return };
+    let last = rows[rows.len() - 1];
+    let held: usize = lines.iter().map(length).sum();
+    let mut missing = (MOST_BYTES + random.below(2)).saturating_sub(held);
+    let mut more = vec![];
+    for number in rows.len()..MOST_ROWS {
+        let copy = renumbered(&lines[longest], number);
+        // As much again is left for the copy of the last row.
+        if 2 * length(&copy) >= missing {
+            break;
         }
-    });
-    let (before, after) = lines.split_at(last + 1);
-    let grown = before.iter().map(|line| line.to_string()).chain(more);
-    grown
-        .chain(after.iter().map(|line| line.to_string()))
-        .map(|line| line + "\n")
-        .collect::<String>()
-        .into_bytes()
+        missing -= length(&copy);
+        more.push(copy);
+    }
+    let closing = renumbered(&lines[last], rows.len() + more.len());
+    missing = missing.saturating_sub(length(&closing));
+    more.push(closing);
+    lines.splice(last + 1..last + 1, more);
+    for name in lines.iter_mut().filter(|fields| fields[0] == "A").filter_map(|fields| fields.get_mut(2)) {
+        let longer = missing.min(24usize.saturating_sub(name.len()));
+        name.push_str(&"_".repeat(longer));
+        missing -= longer;
+    }
+}
+
+fn renumbered(fields: &[String], number: usize) -> Vec<String> {
+    let mut copy = fields.to_vec();
+    if let Some(own) = copy.get_mut(1) {
+        *own = number.to_string();
+    }
+    copy
 }

@@ -98,7 +98,7 @@ impl Prover {
             return row;
         }
         let Some((&k, open)) = open.split_first() else {
-            return self.decided(left, right, there);
+            return self.decided(&sequent(left, right), there);
         };
         let p = self.formulas.atom(k);
         let not_p = self.formulas.not(p);
@@ -128,16 +128,16 @@ impl Prover {
         None
     }
 
-    /// left => right, where left holds M(T) for every atom.
-    fn decided(&mut self, left: &FormulaSet, right: &FormulaSet, there: Atoms) -> usize {
+    /// A goal whose left holds M(T) for every atom.
+    fn decided(&mut self, goal: &Sequent, there: Atoms) -> usize {
         let mut total = Pair::new(there, there);
-        if let Some(&formula) = right.iter().find(|&&f| total.holds(&self.formulas, f)) {
-            return self.on_the_right(left, right, formula, &mut total);
+        if let Some(&formula) = goal.succedent.iter().find(|&&f| total.holds(&self.formulas, f)) {
+            return self.on_the_right(goal, formula, &mut total);
         }
-        if let Some(&formula) = left.iter().find(|&&f| !total.holds(&self.formulas, f)) {
-            return self.on_the_left(left, right, formula, &mut total);
+        if let Some(&formula) = goal.antecedent.iter().find(|&&f| !total.holds(&self.formulas, f)) {
+            return self.on_the_left(goal, formula, &mut total);
         }
-        self.unstable(&sequent(left, right), there)
+        self.unstable(goal, there)
     }
 
     /// `unst` with S = T. T satisfies the left, and no equilibrium model of the left
@@ -154,22 +154,16 @@ impl Prover {
         let (modelled, refuted) = (premise(0), premise(1));
         let decided = refuted.antecedent == goal.antecedent;
         let first = match decided {
-            true => self.decided(&modelled.antecedent, &modelled.succedent, there),
+            true => self.decided(&modelled, there),
             false => self.prove(&modelled).expect("what has no equilibrium model entails all"),
         };
         let second = self.refute_at(&refuted, &mut Pair::new(here, there));
         self.row("unst", None, &[first, second], goal.clone())
     }
 
-    /// left => right, where T satisfies `formula` on the right.
-    fn on_the_right(
-        &mut self,
-        left: &FormulaSet,
-        right: &FormulaSet,
-        formula: Formula,
-        total: &mut Pair,
-    ) -> usize {
-        let goal = sequent(left, right);
+    /// A goal on whose right T satisfies `formula`.
+    fn on_the_right(&mut self, goal: &Sequent, formula: Formula, total: &mut Pair) -> usize {
+        let Sequent { antecedent: left, succedent: right } = goal;
         let rest = self.rest_of(right, formula);
         let mut holds = |f| total.holds(&self.formulas, f);
         match self.formulas.node(formula) {
@@ -179,73 +173,67 @@ impl Prover {
                 let not_not_p = self.formulas.not(not_p);
                 let same = self.row("same", Some(formula), &[], sequent(&with(left, formula), right));
                 let notr = self.row("notr", Some(not_p), &[same], sequent(left, &with(right, not_p)));
-                self.row("notl", Some(not_not_p), &[notr], goal)
+                self.row("notl", Some(not_not_p), &[notr], goal.clone())
             }
             Node::Not(a) => {
-                let premise = self.on_the_left(&with(left, a), &rest, a, total);
-                self.row("notr", Some(formula), &[premise], goal)
+                let premise = self.on_the_left(&sequent(&with(left, a), &rest), a, total);
+                self.row("notr", Some(formula), &[premise], goal.clone())
             }
             Node::And(a, b) => {
-                let first = self.on_the_right(left, &with(&rest, a), a, total);
-                let second = self.on_the_right(left, &with(&rest, b), b, total);
-                self.row("andr", Some(formula), &[first, second], goal)
+                let first = self.on_the_right(&sequent(left, &with(&rest, a)), a, total);
+                let second = self.on_the_right(&sequent(left, &with(&rest, b)), b, total);
+                self.row("andr", Some(formula), &[first, second], goal.clone())
             }
             Node::Or(a, b) => {
                 let part = if holds(a) { a } else { b };
-                let premise = self.on_the_right(left, &with(&with(&rest, a), b), part, total);
-                self.row("orr", Some(formula), &[premise], goal)
+                let premise = self.on_the_right(&sequent(left, &with(&with(&rest, a), b)), part, total);
+                self.row("orr", Some(formula), &[premise], goal.clone())
             }
             Node::Implies(a, b) => {
-                let (left, right) = (with(left, a), with(&rest, b));
+                let premise = sequent(&with(left, a), &with(&rest, b));
                 let premise = match holds(b) {
-                    true => self.on_the_right(&left, &right, b, total),
-                    false => self.on_the_left(&left, &right, a, total),
+                    true => self.on_the_right(&premise, b, total),
+                    false => self.on_the_left(&premise, a, total),
                 };
-                self.row("impr", Some(formula), &[premise], goal)
+                self.row("impr", Some(formula), &[premise], goal.clone())
             }
         }
     }
 
-    /// left => right, where T fails `formula` on the left.
-    fn on_the_left(
-        &mut self,
-        left: &FormulaSet,
-        right: &FormulaSet,
-        formula: Formula,
-        total: &mut Pair,
-    ) -> usize {
-        let goal = sequent(left, right);
+    /// A goal on whose left T fails `formula`.
+    fn on_the_left(&mut self, goal: &Sequent, formula: Formula, total: &mut Pair) -> usize {
+        let Sequent { antecedent: left, succedent: right } = goal;
         let rest = self.rest_of(left, formula);
         let mut holds = |f| total.holds(&self.formulas, f);
         match self.formulas.node(formula) {
             Node::Falsum => {
                 let premise = self.row("same", Some(formula), &[], sequent(left, &with(right, formula)));
-                self.row("bot", Some(formula), &[premise], goal)
+                self.row("bot", Some(formula), &[premise], goal.clone())
             }
             Node::Atom(_) => {
                 let not_p = self.formulas.not(formula);
                 let premise = self.row("same", Some(formula), &[], sequent(left, &with(right, formula)));
-                self.row("notl", Some(not_p), &[premise], goal)
+                self.row("notl", Some(not_p), &[premise], goal.clone())
             }
             Node::Not(a) => {
-                let premise = self.on_the_right(&rest, &with(right, a), a, total);
-                self.row("notl", Some(formula), &[premise], goal)
+                let premise = self.on_the_right(&sequent(&rest, &with(right, a)), a, total);
+                self.row("notl", Some(formula), &[premise], goal.clone())
             }
             Node::And(a, b) => {
                 let part = if holds(a) { b } else { a };
-                let premise = self.on_the_left(&with(&with(&rest, a), b), right, part, total);
-                self.row("andl", Some(formula), &[premise], goal)
+                let premise = self.on_the_left(&sequent(&with(&with(&rest, a), b), right), part, total);
+                self.row("andl", Some(formula), &[premise], goal.clone())
             }
             Node::Or(a, b) => {
-                let first = self.on_the_left(&with(&rest, a), right, a, total);
-                let second = self.on_the_left(&with(&rest, b), &with(right, a), b, total);
-                self.row("orl", Some(formula), &[first, second], goal)
+                let first = self.on_the_left(&sequent(&with(&rest, a), right), a, total);
+                let second = self.on_the_left(&sequent(&with(&rest, b), &with(right, a)), b, total);
+                self.row("orl", Some(formula), &[first, second], goal.clone())
             }
             Node::Implies(a, b) => {
                 let not_a = self.formulas.not(a);
-                let first = self.on_the_left(&with(&rest, b), &with(right, not_a), b, total);
-                let second = self.on_the_right(&rest, &with(right, a), a, total);
-                self.row("impl", Some(formula), &[first, second], goal)
+                let first = self.on_the_left(&sequent(&with(&rest, b), &with(right, not_a)), b, total);
+                let second = self.on_the_right(&sequent(&rest, &with(right, a)), a, total);
+                self.row("impl", Some(formula), &[first, second], goal.clone())
             }
         }
     }

@@ -1,0 +1,60 @@
+//! Random texts to judge, with the lengths of the tables to lend.
+
+use crate::corpus::{self, Case};
+use crate::generate;
+use crate::judge::{LEAST, Tables};
+use crate::mutate::mutate;
+use crate::random::Random;
+
+/// A text, the lengths of the tables lent with it, and its number and line where they
+/// are known.
+pub struct Sample {
+    pub text: Vec<u8>,
+    pub lent: Tables<usize>,
+    pub answer: Option<(u16, usize)>,
+}
+
+/// So many damaged copies follow each text whose answer is known.
+const DAMAGED_COPIES: usize = 6;
+
+/// Samples without end; the same seed gives the same ones.
+pub fn samples(seed: u64) -> impl Iterator<Item = Sample> {
+    let mut random = Random::new(seed);
+    let cases = corpus::cases();
+    let groups: Vec<Vec<Case>> =
+        cases.chunk_by(|a, b| a.group() == b.group()).map(<[Case]>::to_vec).collect();
+    std::iter::repeat_with(move || batch(&mut random, &groups)).flatten()
+}
+
+/// A text whose answer is known, and its damaged copies.
+fn batch(random: &mut Random, groups: &[Vec<Case>]) -> Vec<Sample> {
+    let (text, answer) = if random.once_in(4) {
+        let group = &groups[random.below(groups.len())];
+        let case = &group[random.below(group.len())];
+        (case.text.clone(), (case.number, case.line))
+    } else {
+        let text = generate::any(random).text();
+        let lines = text.iter().filter(|&&byte| byte == b'\n').count();
+        (text, (0, lines))
+    };
+    let mut samples = vec![lend(random, text.clone(), Some(answer))];
+    for _ in 0..DAMAGED_COPIES {
+        let damaged = mutate(random, &text);
+        samples.push(lend(random, damaged, None));
+    }
+    samples
+}
+
+/// Tables of the least lengths or with room to spare; now and then one is too short.
+fn lend(random: &mut Random, text: Vec<u8>, answer: Option<(u16, usize)>) -> Sample {
+    let most_to_spare = random.pick(&[0, 1, 99]);
+    let short = random.once_in(40).then(|| random.below(5));
+    let mut tables = 0..5;
+    let lent = LEAST.map(|least| match tables.next() == short {
+        true if random.once_in(2) => random.below(least),
+        true => least - 1,
+        false => least + random.below(most_to_spare + 1),
+    });
+    let answer = if short.is_some() { Some((1, 0)) } else { answer };
+    Sample { text, lent, answer }
+}
