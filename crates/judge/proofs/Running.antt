@@ -1,6 +1,6 @@
 -- The run over a text's lines: what holds when the line at a place is about to be read, kept by each line that passes, and
 -- what it says of the answer where the run stops.
-use Prim.Native.Nat.{ℕ, suc, _+_, _≤_, _<_, _-_}
+use Prim.Native.Nat.{ℕ, zero, suc, _+_, _≤_, _<_, _-_}
 use native.Mathlib.Nat.{sub-zero}
 use native.Mathlib.Omega.{arith}
 use mathlib.Core.Path.{_≡_, refl, sym, ap, ap₂, subst, _∙_}
@@ -14,6 +14,7 @@ use Rattle.format.specs.File.{Claim, Stage, in-atoms, in-formulas, in-rows, cla
 use Rattle.format.specs.Tests.{rank}
 use Rattle.format.specs.Tables.{padded}
 use Rattle.format.specs.Judged.{Place, Outcome, next, refused, step, below, top, beginning, Answer, accepted, turnedDown, orNoClaim}
+use Rattle.tables.proofs.Indexing.{index-none}
 use Rattle.text.specs.Scan.{nextAt}
 use Rattle.text.proofs.Scan.{next-bounds, next-part, last-part}
 use Rattle.format.proofs.Stepping.{runFrom, answerFrom, run-next, answer-next, answer-refused, answer-stub, run-end, answer-end, answer-whole, step-refused}
@@ -95,9 +96,9 @@ counted-nothing c e =
     }
 
 -- before the first line, in clear tables
-pub running-start : (text : Bytes) (t : Contents) (c : Counts) → Full t → Zeros (t .names) (t .formulas) (t .rows) (t .left) (t .right) → Counted noFile c → Running text 1 0 c t
+pub running-start : (text : Bytes) (t : Contents) (c : Counts) → Full t → Zeros (t .names) (t .formulas) (t .rows) (t .left) (t .right) → t .words ≡ replicate (length (t .words)) 0 → Counted noFile c → Running text 1 0 c t
 unfolding beginning
-running-start text t c full clear counted =
+running-start text t c full clear no-words counted =
     record {
       done = [];
       file = noFile;
@@ -110,6 +111,7 @@ running-start text t c full clear counted =
             names = empty (clear .names-table);
             formulas = record { held = good-start .held; table = empty (clear .formulas-table) };
             words = λ i h. absurd (omega arith);
+            index = index-none (t .words) (λ i. ap (λ (l : List ℕ). getD l i 0) no-words ∙ all-zero (length (t .words)) i);
             rows = record { table = empty (clear .rows-table); left-pool = empty (clear .left-pool); right-pool = empty (clear .right-pool) };
             room-left = omega (arith, counted .left);
             room-right = omega (arith, counted .right);
@@ -120,6 +122,11 @@ running-start text t c full clear counted =
       outcome = refl;
     }
   where
+    all-zero : (n i : ℕ) → _≡_ {A = ℕ} (getD (replicate n 0) i 0) 0
+    all-zero zero i = refl
+    all-zero (suc n) zero = refl
+    all-zero (suc n) (suc i) = all-zero n i
+
     empty : {xs : List ℕ} → xs ≡ replicate (length xs) 0 → xs ≡ padded (length xs) []
     empty {xs} e = e ∙ ap (λ (n : ℕ). replicate n 0) (sym (sub-zero (length xs)))
 

@@ -123,7 +123,7 @@ module _ {text : Bytes} {names formulas rows left right : List ℕ} {answer : An
   refuses n = ⊎-elim (λ a. absurd (n (a .number))) (λ r. r) ran
 
 -- tables that are long enough are full
-pub long-enough : (t : State.Contents) → tooShort (lentOf (t .names) (t .formulas) (t .rows) (t .left) (t .right)) ≡ false → mostFormulas ≤ length (t .words) → Full t
+pub long-enough : (t : State.Contents) → tooShort (lentOf (t .names) (t .formulas) (t .rows) (t .left) (t .right)) ≡ false → 3 * mostFormulas ≤ length (t .words) → Full t
 unfolding tooShort
 long-enough t e w =
     let fifth = or-false (names || formulas || rows || left) right e in

@@ -88,7 +88,7 @@ fn advance(
     }
 }
 
-// All lines of a text of at most 65,536 bytes, into clear tables of full length.
+// All lines of a text of at most 65,536 bytes, into clear tables of full length, with clear words for what is known of the formulas.
 fn run(
     text: &[u8],
     names: &mut [u16],
@@ -98,7 +98,7 @@ fn run(
     left: &mut [u16],
     right: &mut [u16],
 ) -> Answer
-    requires { ⌜ (length (now text) ≤ 65536) × Full (record { names = now names; formulas = now formulas; words = now words; rows = now rows; left = now left; right = now right }) × Zeros (now names) (now formulas) (now rows) (now left) (now right) ⌝ }
+    requires { ⌜ (length (now text) ≤ 65536) × Full (record { names = now names; formulas = now formulas; words = now words; rows = now rows; left = now left; right = now right }) × Zeros (now names) (now formulas) (now rows) (now left) (now right) × (now words ≡ replicate (length (now words)) 0) ⌝ }
     ensures { λ r. ⌜ Accepts (now (text .entry)) (now (names .exit)) (now (formulas .exit)) (now (rows .exit)) (now (left .exit)) (now (right .exit)) r ⊎ Refuses (now (text .entry)) r ⌝ }
 {
     let mut counts = nothing();
@@ -182,7 +182,7 @@ fn run_or_clear(
     requires { ⌜ (length (now text) ≤ 65536) × (tooShort (record { names = length (now names); formulas = length (now formulas); rows = length (now rows); left = length (now left); right = length (now right) }) ≡ false) × Zeros (now names) (now formulas) (now rows) (now left) (now right) ⌝ }
     ensures { λ r. ⌜ Accepts (now (text .entry)) (now (names .exit)) (now (formulas .exit)) (now (rows .exit)) (now (left .exit)) (now (right .exit)) r ⊎ (Refuses (now (text .entry)) r × Zeros (now (names .exit)) (now (formulas .exit)) (now (rows .exit)) (now (left .exit)) (now (right .exit))) ⌝ }
 {
-    let mut words = [0u64; 1024];
+    let mut words = [0u64; 3072];
     let answer = run(text, names, formulas, &mut words, rows, left, right);
     let number = answer.number;
     if number == 0 {

@@ -251,6 +251,7 @@ module _ (text line : Bytes) (start : ℕ) (name-fits : startIn start line + len
         names = put-held nameRecord (t .names) (f .names) new (nameWidth * counts .atoms) names (stored .names) end-of-names fits put-new;
         formulas = record { held = step-good p line good passed .held; table = stored .formulas .table };
         words = stored .words;
+        index = stored .index;
         rows = record { table = stored .rows .table; left-pool = stored .rows .left-pool; right-pool = stored .rows .right-pool };
         room-left = stored .room-left;
         room-right = stored .room-right;

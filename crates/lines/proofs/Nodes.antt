@@ -34,10 +34,12 @@ use Rattle.text.specs.Words.{formulaWord}
 use Rattle.text.specs.declared.Number.{Number}
 use Rattle.text.specs.declared.Fields.{Fields}
 use Rattle.tables.specs.Records.{written, nodeWidth, nodeNumbers}
-use Rattle.tables.specs.Lookups.{holdsNode, atomWord, nodeAtoms}
+use Rattle.tables.specs.Lookups.{atomWord, nodeAtoms}
 use Rattle.tables.specs.Lookups.{atomsOf as atomsBy}
 use Rattle.tables.specs.declared.records.NodeRecord.{NodeRecord}
-use Rattle.tables.proofs.Encoded.{nodes-length, holds-encoded, atoms-encoded}
+use Rattle.tables.specs.Index.{Indexed, entered}
+use Rattle.tables.proofs.Encoded.{nodes-length, atoms-encoded}
+use Rattle.tables.proofs.Indexing.{index-kept, index-more, length-entered, entered-before}
 use Rattle.rows.specs.Ground.{Formulas, AtomWords}
 use Rattle.lines.specs.declared.state.Counts.{Counts}
 use Rattle.lines.specs.declared.state.Stepped.{Stepped}
@@ -306,19 +308,16 @@ module _ (f : File) (n : ℕ) (m : Node) where
         pub formula-ahead : ahead ≡ true → some 7 ≡ first (formulaTests f n m)
         formula-ahead e = sym (roomy ∙ first-applies (7 when ahead) ((8 when again) ∷ []) e)
 
-        -- where the table holds the formulas
-        module _ (earlier : ahead ≡ false) (node : Written) (is-node : node ≡ writtenAs (some m)) (table : List ℕ) (held : Formulas (f .body) table) where
-          held-here : holdsNode table (counts .formulas) (narrowed node) ≡ again
-          held-here =
-              ap₂ (λ (l : List ℕ) (k : ℕ). holdsNode l k (narrowed node)) (held .table) (c .formulas)
-              ∙ holds-encoded (length table) (f .body .nodes) (narrowed node)
-              ∙ ap (λ (numbers : List ℕ). any (λ x. sameList (nodeRecord x) numbers) (f .body .nodes)) (ap (λ (x : Written). nodeNumbers (narrowed x)) is-node ∙ record-fits (f .body) (held .held) m earlier)
+        -- where no equal formula, or one, is found by the record
+        module _ (earlier : ahead ≡ false) (node : Written) (is-node : node ≡ writtenAs (some m)) (held : Held (f .body)) where
+          found-here : any (λ x. sameList (nodeRecord x) (nodeNumbers (narrowed node))) (f .body .nodes) ≡ again
+          found-here = ap (λ (numbers : List ℕ). any (λ x. sameList (nodeRecord x) numbers) (f .body .nodes)) (ap (λ (x : Written). nodeNumbers (narrowed x)) is-node ∙ record-fits (f .body) held m earlier)
 
-          pub formula-again : holdsNode table (counts .formulas) (narrowed node) ≡ true → some 8 ≡ first (formulaTests f n m)
-          formula-again e = sym (roomy ∙ first-passes (7 when ahead) ((8 when again) ∷ []) earlier ∙ first-applies (8 when again) [] (sym held-here ∙ e))
+          pub formula-again : any (λ x. sameList (nodeRecord x) (nodeNumbers (narrowed node))) (f .body .nodes) ≡ true → some 8 ≡ first (formulaTests f n m)
+          formula-again e = sym (roomy ∙ first-passes (7 when ahead) ((8 when again) ∷ []) earlier ∙ first-applies (8 when again) [] (sym found-here ∙ e))
 
-          pub formula-passes : holdsNode table (counts .formulas) (narrowed node) ≡ false → none ≡ first (formulaTests f n m)
-          formula-passes e = sym (roomy ∙ first-passes (7 when ahead) ((8 when again) ∷ []) earlier ∙ first-passes (8 when again) [] (sym held-here ∙ e))
+          pub formula-passes : any (λ x. sameList (nodeRecord x) (nodeNumbers (narrowed node))) (f .body .nodes) ≡ false → none ≡ first (formulaTests f n m)
+          formula-passes e = sym (roomy ∙ first-passes (7 when ahead) ((8 when again) ∷ []) earlier ∙ first-passes (8 when again) [] (sym found-here ∙ e))
 
 -- ---- the fields
 
@@ -450,7 +449,8 @@ formulaMore c = record { atoms = c .atoms; formulas = c .formulas + 1; rows = c 
 module _ (text line : Bytes) (f : File) (p : Place) (done : List Bytes) (counts : Counts) (t : Contents) (good : Good done f) (stored : Stored text f counts t)
     (n : ℕ) (m : Node) (read : lineOf line ≡ some (formulaLine n m)) (room : counts .formulas < 1024) (passes : first (formulaTests f n m) ≡ none) (earlier : refersAhead (f .body) m ≡ false)
     (numbers : List ℕ) (is-record : numbers ≡ nodeRecord m) (table : List ℕ) (put : table ≡ written (t .formulas) (nodeWidth * counts .formulas) numbers)
-    (words : List ℕ) (w : ℕ) (is-word : w ≡ nodeAtoms table (t .words) (counts .formulas)) (put-word : words ≡ set (t .words) (counts .formulas) w) where
+    (noted : List ℕ) (w : ℕ) (is-word : w ≡ nodeAtoms table (t .words) (counts .formulas)) (put-word : noted ≡ set (t .words) (counts .formulas) w)
+    (words : List ℕ) (enter : words ≡ entered noted (counts .formulas) numbers) where
   passed : step f p line ≡ next (withNode f m)
   passed = step-formula f p line n m read ∙ ap (λ (o : Option ℕ). settled o p (withNode f m)) passes
 
@@ -484,21 +484,46 @@ module _ (text line : Bytes) (f : File) (p : Place) (done : List Bytes) (counts 
       ∙ atoms-encoded (length table) (f .body .nodes ++ m ∷ []) (t .words) (length (f .body .nodes)) Node.bot (omega (arith, length-append (f .body .nodes) (m ∷ [])))
       ∙ ap (atomsBy (t .words)) (getD-at (f .body .nodes) m [] Node.bot (length (f .body .nodes)) refl)
 
-  words-held : AtomWords (withNode f m .body) words
-  words-held =
-      subst (AtomWords (withNode f m .body)) (sym (put-word ∙ ap (λ (k : ℕ). set (t .words) k w) (stored .counted .formulas)))
+  put-there : noted ≡ set (t .words) (length (f .body .nodes)) w
+  put-there = put-word ∙ ap (λ (k : ℕ). set (t .words) k w) (stored .counted .formulas)
+
+  noted-long : length noted ≡ length (t .words)
+  noted-long = ap length put-word ∙ length-set (t .words) (counts .formulas) w
+
+  enter-there : words ≡ entered noted (length (f .body .nodes)) (nodeRecord m)
+  enter-there = enter ∙ ap₂ (entered noted) (stored .counted .formulas) is-record
+
+  words-long : length words ≡ length (t .words)
+  words-long = ap length enter ∙ length-entered noted (counts .formulas) numbers ∙ noted-long
+
+  indexed-new : Indexed (withNode f m .body .nodes) words
+  indexed-new =
+      let nodes = f .body .nodes in
+      let kept = index-kept nodes (t .words) (stored .index) (length nodes) w (omega (arith, stored .counted .formulas)) in
+      subst (Indexed (nodes ++ m ∷ [])) (sym enter-there)
+      (index-more nodes m noted (subst (Indexed nodes) (sym put-there) kept) (omega (arith, stored .counted .formulas)) (omega (arith, noted-long, stored .full .words)))
+
+  noted-held : AtomWords (withNode f m .body) noted
+  noted-held =
+      subst (AtomWords (withNode f m .body)) (sym put-there)
       (words-more (f .body) (stored .formulas .held) (t .words) (stored .words) m earlier (withNode f m .body) refl (omega (arith, stored .full .words, stored .counted .formulas)) w word-here)
+
+  words-held : AtomWords (withNode f m .body) words
+  words-held i h k =
+      subst (λ (word : ℕ). Member k word ↔ (k ∈ formulaAtoms (decodedAt (withNode f m .body .nodes) i)))
+      (sym (ap (λ (l : List ℕ). getD l i 0) enter ∙ entered-before noted (counts .formulas) numbers i (omega (arith, length-append (f .body .nodes) (m ∷ []), stored .counted .formulas)))) (noted-held i h k)
 
   formula-stored : Stored text (withNode f m) (formulaMore counts) (withFormulas t table words)
   formula-stored =
       let c = stored .counted in
       record {
-        full = record { names = stored .full .names; formulas = omega (arith, same-size, stored .full .formulas); words = omega (arith, ap length put-word, length-set (t .words) (counts .formulas) w, stored .full .words); rows = stored .full .rows; left = stored .full .left; right = stored .full .right };
+        full = record { names = stored .full .names; formulas = omega (arith, same-size, stored .full .formulas); words = omega (arith, words-long, stored .full .words); rows = stored .full .rows; left = stored .full .left; right = stored .full .right };
         counted = record { atoms = c .atoms; names = c .names; formulas = ap (λ (k : ℕ). k + 1) (c .formulas) ∙ sym (length-append (f .body .nodes) (m ∷ [])); rows = c .rows; left = c .left; right = c .right; stage = refl; claim = c .claim };
         names-in = stored .names-in;
         names = stored .names;
         formulas = record { held = step-good p line good passed .held; table = held-new };
         words = words-held;
+        index = indexed-new;
         rows = record { table = stored .rows .table; left-pool = stored .rows .left-pool; right-pool = stored .rows .right-pool };
         room-left = stored .room-left;
         room-right = stored .room-right;
@@ -519,19 +544,20 @@ passes-earlier false false false d e = refl
 pub formula-bad : (line : Bytes) (formulas words : List ℕ) {counts : Counts} {r : Stepped} → lineOf line ≡ none → (r .number ≡ 3) × (r .counts ≡ counts) → FormulaLined line counts r formulas words formulas words
 formula-bad line formulas words e given text t f p done good stored = line-refused 3 (p .line) (step-bad f p line e) (stored .full) given
 
-module _ (line : Bytes) (counts : Counts) (formulas words : List ℕ) (n : ℕ) (node : Written) (k : ℕ) (numbers : FormulaNumbered formulas counts n node k)
+module _ (line : Bytes) (counts : Counts) (formulas words : List ℕ) (n : ℕ) (node : Written) (k : ℕ) (numbers : FormulaNumbered formulas words counts n node k)
     (read : (m : Node) × (lineOf line ≡ some (formulaLine n m)) × (node ≡ writtenAs (some m))) where
   pub formula-refused : (r : Stepped) → (k ≡ 0 → ⊥) → (r .number ≡ k) × (r .counts ≡ counts) → FormulaLined line counts r formulas words formulas words
   formula-refused r h given text t f p done good stored =
-      line-refused k (p .line) (step-formula f p line n (read .0) (read .1) ∙ number-given k _ p _ (numbers .tests f (read .0) (stored .counted) (stored .formulas) (read .2)) h) (stored .full) given
+      line-refused k (p .line) (step-formula f p line n (read .0) (read .1) ∙ number-given k _ p _ (numbers .tests f (read .0) (stored .counted) (stored .formulas) (stored .index) (read .2)) h) (stored .full) given
 
   pub formula-lined : k ≡ 0 → (put : NodeRecord) → put ≡ narrowed node → (formulas′ : List ℕ) → formulas′ ≡ written formulas (nodeWidth * counts .formulas) (nodeNumbers put)
-      → (words′ : List ℕ) (w : ℕ) → w ≡ nodeAtoms formulas′ words (counts .formulas) → words′ ≡ set words (counts .formulas) w
+      → (noted : List ℕ) (w : ℕ) → w ≡ nodeAtoms formulas′ words (counts .formulas) → noted ≡ set words (counts .formulas) w
+      → (key : NodeRecord) → key ≡ narrowed node → (words′ : List ℕ) → words′ ≡ entered noted (counts .formulas) (nodeNumbers key)
       → FormulaLined line counts (record { number = 0; counts = formulaMore counts }) formulas words formulas′ words′
-  formula-lined zero-k put is-record formulas′ put-node words′ w is-word put-word text t f p done good stored =
+  formula-lined zero-k put is-record formulas′ put-node noted w is-word put-word key is-key words′ enter text t f p done good stored =
       let m = read .0 in
-      let passes : first (formulaTests f n m) ≡ none = none-given k _ (numbers .tests f m (stored .counted) (stored .formulas) (read .2)) zero-k in
+      let passes : first (formulaTests f n m) ≡ none = none-given k _ (numbers .tests f m (stored .counted) (stored .formulas) (stored .index) (read .2)) zero-k in
       let earlier : refersAhead (f .body) m ≡ false = passes-earlier (out f n m) (full f n m) (ahead f n m) (again f n m) passes in
       formula-next text line f p done counts (withFormulas t formulas words) good stored n m (read .1) (numbers .passed zero-k) passes earlier
       (nodeNumbers put) (ap nodeNumbers is-record ∙ ap (λ (x : Written). nodeNumbers (narrowed x)) (read .2) ∙ record-fits (f .body) (stored .formulas .held) m earlier)
-      formulas′ put-node words′ w is-word put-word
+      formulas′ put-node noted w is-word put-word words′ (enter ∙ ap (λ (x : NodeRecord). entered noted (counts .formulas) (nodeNumbers x)) (is-key ∙ sym is-record))

@@ -217,6 +217,7 @@ module _ (line : Bytes) (p : Place) {text : Bytes} {done : List Bytes} {f : File
           names = s .names;
           formulas = record { held = step-good p line g steps-next .held; table = s .formulas .table };
           words = s .words;
+          index = s .index;
           rows = record { table = rows-put .0; left-pool = left-put .0; right-pool = right-put .0 };
           room-left = omega (arith, passed .left-room, ap length (h .left-side));
           room-right = omega (arith, passed .right-room, ap length (h .right-side));

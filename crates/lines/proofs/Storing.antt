@@ -29,6 +29,7 @@ claim-stored claim line s e =
       names = s .names;
       formulas = s .formulas;
       words = s .words;
+      index = s .index;
       rows = s .rows;
       room-left = s .room-left;
       room-right = s .room-right;

@@ -12,6 +12,7 @@ use Rattle.format.specs.Tests.{first, atomTests, formulaTests}
 use Rattle.format.specs.Judged.{Place, step}
 use Rattle.format.proofs.Beginnings.{Good}
 use Rattle.tables.specs.declared.records.NodeRecord.{NodeRecord}
+use Rattle.tables.specs.Index.{Indexed}
 use Rattle.rows.specs.Ground.{Formulas}
 use Rattle.lines.specs.State.{Counted, NamesIn, Contents, Stored}
 use Rattle.lines.specs.Lined.{Lined}
@@ -49,11 +50,11 @@ abbrev pub narrowed : Written → NodeRecord
 narrowed node = record { word = node .word % 65536; first = node .first % 65536; second = node .second % 65536 }
 
 -- the number that a formula earns: the first of 4, 5, 7 and 8 that applies
-pub record FormulaNumbered (formulas : List ℕ) (counts : Counts) (n : ℕ) (node : Written) (k : ℕ) : Type 0 where
+pub record FormulaNumbered (formulas words : List ℕ) (counts : Counts) (n : ℕ) (node : Written) (k : ℕ) : Type 0 where
   pub passed : k ≡ 0 → counts .formulas < mostFormulas
-  pub tests : (f : File) (m : Node) → Counted f counts → Formulas (f .body) formulas → node ≡ writtenAs (some m) → numbered k ≡ first (formulaTests f n m)
+  pub tests : (f : File) (m : Node) → Counted f counts → Formulas (f .body) formulas → Indexed (f .body .nodes) words → node ≡ writtenAs (some m) → numbered k ≡ first (formulaTests f n m)
 
--- the contents with other formulas and words of atoms
+-- the contents with other formulas and words
 abbrev pub withFormulas : Contents → List ℕ → List ℕ → Contents
 withFormulas t formulas words = record { names = t .names; formulas = formulas; words = words; rows = t .rows; left = t .left; right = t .right }
 

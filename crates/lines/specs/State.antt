@@ -10,6 +10,7 @@ use Rattle.format.specs.File.{Name, Claim, File}
 use Rattle.format.specs.Tables.{padded, joinAll, nameRecord, leftPool, rightPool, rowWidth, mostAtoms, mostFormulas, mostRows, mostEntries}
 use Rattle.format.specs.Tests.{rank}
 use Rattle.format.specs.Judged.{Outcome, next, refused}
+use Rattle.tables.specs.Index.{Indexed}
 use Rattle.rows.specs.Ground.{Formulas, Rows, AtomWords}
 use Rattle.lines.specs.declared.state.Counts.{Counts}
 use Rattle.lines.specs.declared.state.Stepped.{Stepped}
@@ -33,7 +34,7 @@ pub record Counted (f : File) (c : Counts) : Type 0 where
 abbrev pub NamesIn : Bytes → List Name → Type 0
 NamesIn text names = (n : Name) → n ∈ names → (n .start + length (n .name) ≤ length text) × (take (length (n .name)) (drop (n .start) text) ≡ n .name)
 
--- the contents of the lent tables, and of the words of atoms
+-- the contents of the lent tables, and of the words: the atoms of each formula, and the index of the formulas
 pub record Contents : Type 0 where
   pub names : List ℕ
   pub formulas : List ℕ
@@ -46,7 +47,7 @@ pub record Contents : Type 0 where
 pub record Full (t : Contents) : Type 0 where
   pub names : 2 * mostAtoms ≤ length (t .names)
   pub formulas : 3 * mostFormulas ≤ length (t .formulas)
-  pub words : mostFormulas ≤ length (t .words)
+  pub words : 3 * mostFormulas ≤ length (t .words)
   pub rows : rowWidth * mostRows ≤ length (t .rows)
   pub left : mostEntries ≤ length (t .left)
   pub right : mostEntries ≤ length (t .right)
@@ -59,6 +60,7 @@ pub record Stored (text : Bytes) (f : File) (c : Counts) (t : Contents) : Type 0
   pub names : t .names ≡ padded (length (t .names)) (joinAll nameRecord (f .names))
   pub formulas : Formulas (f .body) (t .formulas)
   pub words : AtomWords (f .body) (t .words)
+  pub index : Indexed (f .body .nodes) (t .words)
   pub rows : Rows (f .body) (t .rows) (t .left) (t .right)
   pub room-left : c .left ≤ mostEntries
   pub room-right : c .right ≤ mostEntries

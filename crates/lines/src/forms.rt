@@ -2,7 +2,7 @@
 ghost use mathlib.Core.Path.{_≡_};
 ghost use mathlib.Core.Option.{none, some};
 ghost use Prim.Native.Nat.{_%_};
-ghost use lib.ListN.{length, set};
+ghost use lib.ListN.{length};
 ghost use Rattle.format.specs.File.{Node, Body};
 ghost use Rattle.format.specs.Line.{nodeOf};
 ghost use Rattle.format.specs.Tests.{refersAhead};
@@ -13,7 +13,9 @@ use crate::entered::field;
 use crate::state::Counts;
 use crate::state::Stepped;
 use crate::state::refused;
-use tables::lookups::holds_node;
+use tables::index::enter_node;
+use tables::index::holds_node;
+use tables::index::put_word;
 use tables::lookups::node_atoms;
 use tables::records::NodeRecord;
 use tables::records::put_node;
@@ -133,8 +135,8 @@ fn record_of(node: Written) -> NodeRecord
 }
 
 // The first of the numbers 4, 5, 7 and 8 that applies to a formula, 0 if none does.
-fn formula_number(formulas: &[u16], counts: Counts, n: u32, node: Written) -> u32
-    ensures { λ r. ⌜ FormulaNumbered (now (formulas .entry)) counts n node r ⌝ }
+fn formula_number(formulas: &[u16], words: &[u64], counts: Counts, n: u32, node: Written) -> u32
+    ensures { λ r. ⌜ FormulaNumbered (now (formulas .entry)) (now (words .entry)) counts n node r ⌝ }
 {
     let held = counts.formulas;
     if 1 < counts.stage {
@@ -149,19 +151,10 @@ fn formula_number(formulas: &[u16], counts: Counts, n: u32, node: Written) -> u3
     if refers_ahead(node, counts) {
         return 7;
     }
-    if holds_node(formulas, held, record_of(node)) {
+    if holds_node(formulas, words, record_of(node)) {
         return 8;
     }
     0
-}
-
-// A word is stored where the table has room for it.
-fn put_word(words: &mut [u64], at: usize, word: u64)
-    ensures { λ r. ⌜ now (words .exit) ≡ set (now (words .entry)) at word ⌝ }
-{
-    if at < words.len() {
-        words[at] = word;
-    }
 }
 
 // An F line, taken into its fields.
@@ -190,13 +183,14 @@ pub(crate) fn formula_line(
     if !node.well {
         return refused(3, counts);
     }
-    let refusal = formula_number(formulas, counts, n, node);
+    let refusal = formula_number(formulas, words, counts, n, node);
     if refusal != 0 {
         return refused(refusal, counts);
     }
     let held = counts.formulas;
     put_node(formulas, held, record_of(node));
     put_word(words, held, node_atoms(formulas, words, held));
+    enter_node(words, held, record_of(node));
     let mut next = counts;
     next.formulas = held + 1;
     next.stage = 1;

@@ -15,7 +15,7 @@ use Rattle.format.specs.File.{Node, Row, Name}
 use Rattle.format.specs.Tables.{Side, fetched, part, rowAt, padded, joinAll, nodeRecord, nameRecord, rowWidth, rowRecord, rowRecords, leftPool, rightPool}
 use Rattle.tables.specs.declared.records.NodeRecord.{NodeRecord}
 use Rattle.tables.specs.Records.{onSide, nameWidth, nodeWidth, written, nodeAt, nodeOf, nodeNumbers}
-use Rattle.tables.specs.Lookups.{firstRecords, holdsNode, spelled, spelledBy, nameUsed, StandsIn, atomsOf, atomsByRecord, nodeAtoms}
+use Rattle.tables.specs.Lookups.{firstRecords, spelled, spelledBy, nameUsed, StandsIn, atomsOf, atomsByRecord, nodeAtoms}
 use Rattle.tables.proofs.Placed.{part-between, written-padded}
 
 -- a table that holds nothing
@@ -95,11 +95,6 @@ nodes-length = joined-length nodeRecord nodeWidth node-width
 module _ (n : ℕ) (nodes : List Node) where
   pub node-encoded : (i : ℕ) (d : Node) → i < length nodes → nodeAt (padded n (joinAll nodeRecord nodes)) i ≡ nodeRecord (getD nodes i d)
   node-encoded i d h = record-at nodeRecord nodeWidth node-width nodes i d (replicate (n - length (joinAll nodeRecord nodes)) 0) h
-
-  pub holds-encoded : (node : NodeRecord) → holdsNode (padded n (joinAll nodeRecord nodes)) (length nodes) node ≡ any (λ m. sameList (nodeRecord m) (nodeNumbers node)) nodes
-  holds-encoded node =
-      ap (any (λ numbers. sameList numbers (nodeNumbers node))) (records-joined nodeRecord nodeWidth node-width nodes (replicate (n - length (joinAll nodeRecord nodes)) 0))
-      ∙ any-map (λ numbers. sameList numbers (nodeNumbers node)) nodeRecord nodes
 
   pub atoms-encoded : (atoms : List ℕ) (i : ℕ) (d : Node) → i < length nodes → nodeAtoms (padded n (joinAll nodeRecord nodes)) atoms i ≡ atomsOf atoms (getD nodes i d)
   unfolding atomsByRecord atomsOf

@@ -2,5 +2,6 @@
 pub mod Placed
 pub mod Sets
 pub mod Encoded
+pub mod Indexing
 mod Equal
 mod Turns

@@ -1,3 +1,4 @@
 pub mod Records
 pub mod Lookups
+pub mod Index
 pub mod Members

@@ -16,10 +16,6 @@ unfoldable pub firstRecords : ℕ → ℕ → List ℕ → List (List ℕ)
 firstRecords width zero table = []
 firstRecords width (suc count) table = cond (leb width (length table)) (take width table ∷ firstRecords width count (drop width table)) []
 
--- one of the first so many formulas has this record
-abbrev pub holdsNode : List ℕ → ℕ → NodeRecord → Bool
-holdsNode formulas count node = any (λ numbers. sameList numbers (nodeNumbers node)) (firstRecords nodeWidth count formulas)
-
 -- the text has exactly this name at a place
 unfoldable pub spelled : Bytes → ℕ → ℕ → Bytes → Bool
 spelled text start len name = leb (start + len) (length text) && sameList (take len (drop start text)) name

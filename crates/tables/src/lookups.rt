@@ -1,13 +1,12 @@
-// What is looked for among the first records of a table: an equal formula, a name that is used already; and the atoms of a
-// formula, out of those of its operands. A record that does not lie inside its table is none of them.
+// Whether a name is among the first records of its table, and the atoms of a formula, out of those of its operands. A record that
+// does not lie inside its table is none of them.
 ghost use mathlib.Core.Path.{_≡_};
 ghost use Prim.Native.Nat.{min};
 ghost use lib.ListN.{getD};
 ghost use Rattle.format.specs.Text.{sameList};
-ghost use Rattle.tables.specs.Lookups.{holdsNode, spelled, nameUsed, atomWord, nodeAtoms};
+ghost use Rattle.tables.specs.Lookups.{spelled, nameUsed, atomWord, nodeAtoms};
+use crate::index::word;
 use crate::records::NAME_WIDTH;
-use crate::records::NODE_WIDTH;
-use crate::records::NodeRecord;
 use crate::records::node;
 use crate::records::wide;
 
@@ -24,31 +23,6 @@ fn least(a: usize, b: usize) -> usize
     ensures { λ r. ⌜ r ≡ min a b ⌝ }
 {
     if a < b { a } else { b }
-}
-
-// Whether one of the first `count` formulas has this record. The first operand is compared first, since it differs most often.
-pub fn holds_node(formulas: &[u16], count: usize, node: NodeRecord) -> bool
-    ensures { λ r. ⌜ r ≡ holdsNode (now (formulas .entry)) count node ⌝ }
-{
-    let word = node.word;
-    let first = node.first;
-    let second = node.second;
-    let end = NODE_WIDTH * least(count, formulas.len() / NODE_WIDTH);
-    let mut at = 0;
-    while at < end {
-        let record = at;
-        at += NODE_WIDTH;
-        if formulas[record + 1] != first {
-            continue;
-        }
-        if formulas[record + 2] != second {
-            continue;
-        }
-        if formulas[record] == word {
-            return true;
-        }
-    }
-    false
 }
 
 // Whether two byte strings are equal.
@@ -109,11 +83,7 @@ fn atom_word(k: u16) -> u64
 fn word_at(atoms: &[u64], i: u16) -> u64
     ensures { λ r. ⌜ r ≡ getD (now (atoms .entry)) i 0 ⌝ }
 {
-    let at = wide(i);
-    if at < atoms.len() {
-        return atoms[at];
-    }
-    0
+    word(atoms, wide(i))
 }
 
 // The atoms of formula i as one word, bit k for atom k, out of the words of the formulas before it.
@@ -121,17 +91,17 @@ pub fn node_atoms(formulas: &[u16], atoms: &[u64], i: usize) -> u64
     ensures { λ r. ⌜ r ≡ nodeAtoms (now (formulas .entry)) (now (atoms .entry)) i ⌝ }
 {
     let n = node(formulas, i);
-    let word = n.word;
-    if word == ATOM {
+    let operator = n.word;
+    if operator == ATOM {
         return atom_word(n.first);
     }
-    if word == NOT {
+    if operator == NOT {
         return word_at(atoms, n.first);
     }
-    if word < AND {
+    if operator < AND {
         return 0;
     }
-    if word > IMP {
+    if operator > IMP {
         return 0;
     }
     word_at(atoms, n.first) | word_at(atoms, n.second)

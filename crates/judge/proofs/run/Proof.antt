@@ -30,7 +30,7 @@ nothing-requires c κs = search needs
 loop-holds : tie.Need-loop-holds Inv-loop μ-loop
 loop-holds c =
     let first = c .before .before .before .before .before .before .before .before in
-    (running-start (first .args .text .now) _ (c .nothing .result) (first .pre .1) (first .pre .2) (counted-nothing _ (c .nothing .ensures)), refl, refl, refl, refl, refl, refl)
+    (running-start (first .args .text .now) _ (c .nothing .result) (first .pre .1) (first .pre .2) (first .pre .3) (counted-nothing _ (c .nothing .ensures)), refl, refl, refl, refl, refl, refl)
 
 -- src/lib.rt:96:13
 advance-requires : tie.Need-advance-requires Inv-loop μ-loop

@@ -1,6 +1,7 @@
 -- `judge::run_or_clear` meets its contract: the tables stay where the run accepts, and are clear where it refuses.
 use mathlib.Core.Logic.{inr}
-use Rattle.judge.proofs.Whole.{kept, refuses, long-enough}
+use mathlib.Core.Path.{refl}
+use Rattle.judge.proofs.Whole.{kept, refuses, long-enough, zeros-long}
 use borrow.Author.Needs.{needs}
 use Rattle.judge.proofs.run_or_clear.Statement.{statement}
 use Rattle.judge.proofs.run_or_clear.Tie as tie
@@ -17,7 +18,7 @@ slice-aggregate-run c = search needs
 run-requires : tie.Need-run-requires
 run-requires c κs =
     let first = c .before .before .before .before .before .before .before .before .before .before .before .before in
-    (first .pre .0, long-enough _ (first .pre .1) (search needs), first .pre .2)
+    (first .pre .0, long-enough _ (first .pre .1) (search needs), first .pre .2, zeros-long _ 3072 refl)
 
 -- src/lib.rt:161:9
 same-length : tie.Need-same-length

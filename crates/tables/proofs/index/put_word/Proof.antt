@@ -1,9 +1,9 @@
--- `lines::forms::put_word` meets its contract: outside the table nothing is stored. Assumes nothing.
+-- `tables::index::put_word` meets its contract: outside the table nothing is stored. Assumes nothing.
 use borrow.Author.Needs.{needs}
 use mathlib.Core.Path.{sym}
 use lib.Seq.{set-out}
-use Rattle.lines.proofs.forms.put_word.Statement.{statement}
-use Rattle.lines.proofs.forms.put_word.Tie as tie
+use Rattle.tables.proofs.index.put_word.Statement.{statement}
+use Rattle.tables.proofs.index.put_word.Tie as tie
 
 mul-words : tie.Need-mul-words
 mul-words c = search needs

@@ -1,0 +1,96 @@
+-- `tables::index::holds_node` meets its contract. The invariant of its loop: for every list of formulas that the table holds with
+-- their index, the walk is at a cursor. Assumes nothing.
+use Prim.Native.Nat.{ℕ, suc, _+_, _-_, _<_}
+use native.Mathlib.Omega.{arith}
+use mathlib.Core.Bool.{true≢false}
+use mathlib.Core.List.{List}
+use mathlib.Core.Path.{_≡_, sym, ap, subst, _∙_}
+use borrow.Author.Needs.{needs}
+use lib.ListN.{length, getD}
+use Rattle.format.specs.File.{Node}
+use Rattle.format.specs.Tables.{padded, joinAll, nodeRecord}
+use Rattle.tables.specs.Records.{nodeNumbers}
+use Rattle.tables.specs.Index.{slotWords, Indexed}
+use Rattle.tables.proofs.Sets.{same-iff}
+use Rattle.tables.proofs.Indexing.{record-there, Cursor, walk-start, walk-next, walk-falls, walk-found, walk-ended}
+use Rattle.tables.proofs.index.holds_node.Statement.{statement}
+use Rattle.tables.proofs.index.holds_node.Tie as tie
+
+abbrev Inv-loop : tie.InvT-loop
+Inv-loop formulas words key after₀ after =
+    (nodes : List Node) → formulas ≡ padded (length formulas) (joinAll nodeRecord nodes) → Indexed nodes words → Cursor nodes (nodeNumbers key) after
+
+abbrev μ-loop : tie.MeasureT-loop
+μ-loop formulas words key after₀ after = after
+
+slot-requires : tie.Need-slot-requires Inv-loop μ-loop
+slot-requires c κs = search needs
+
+add-word : tie.Need-add-word Inv-loop μ-loop
+add-word c = omega (arith, c .slot .ensures)
+
+word-requires : tie.Need-word-requires Inv-loop μ-loop
+word-requires c κs = search needs
+
+loop-holds : tie.Need-loop-holds Inv-loop μ-loop
+loop-holds c nodes held index =
+    let args = c .before .before .before .before .args in
+    subst (Cursor nodes (nodeNumbers (args .key))) (sym (c .word .ensures ∙ ap (λ (s : ℕ). getD (args .words .now) (slotWords + s) 0) (c .before .slot .ensures)))
+    (walk-start nodes (nodeNumbers (args .key)) (args .words .now) index)
+
+sub-i : tie.Need-sub-i Inv-loop μ-loop
+sub-i c = omega arith
+
+has-record-requires : tie.Need-has-record-requires Inv-loop μ-loop
+has-record-requires c κs = search needs
+
+returns : tie.Need-returns Inv-loop μ-loop
+returns c nodes held index =
+    let args = c .before .before .before .before .before .before .before .before .args in
+    let loop = c .before .before .before .loop in
+    let i = loop .after - 1 in
+    let here : i < length nodes = omega (arith, loop .inv nodes held index .within) in
+    let same = same-iff _ _ .0 (sym (c .before .has-record .ensures) ∙ c .if1 .taken) in
+    sym (walk-found nodes (nodeNumbers (args .key)) i here (sym (record-there (args .formulas .now) nodes held i here) ∙ same))
+
+past-last-requires : tie.Need-past-last-requires Inv-loop μ-loop
+past-last-requires c κs = search needs
+
+loop-less : tie.Need-loop-less Inv-loop μ-loop
+loop-less c = omega (arith, c .past-last .ensures .0)
+
+loop-again : tie.Need-loop-again Inv-loop μ-loop
+loop-again c nodes held index =
+    let args = c .before .before .before .before .before .before .before .before .before .args in
+    let loop = c .before .before .before .before .loop in
+    let i = loop .after - 1 in
+    let one-past : loop .after ≡ suc i = omega arith in
+    let at : Cursor nodes (nodeNumbers (args .key)) (suc i) = subst (Cursor nodes (nodeNumbers (args .key))) one-past (loop .inv nodes held index) in
+    let here : i < length nodes = omega (arith, at .within) in
+    let other : nodeRecord (getD nodes i Node.bot) ≡ nodeNumbers (args .key) → ⊥ = λ e. true≢false (sym (c .before .before .has-record .ensures ∙ same-iff _ _ .1 (record-there (args .formulas .now) nodes held i here ∙ e)) ∙ c .before .if1 .left) in
+    subst (Cursor nodes (nodeNumbers (args .key))) (sym (c .past-last .ensures .1 (omega (arith, index .few)) (walk-falls nodes (nodeNumbers (args .key)) (args .words .now) index i at)))
+    (walk-next nodes (nodeNumbers (args .key)) (args .words .now) index i at other)
+
+returns-2 : tie.Need-returns-2 Inv-loop μ-loop
+returns-2 c nodes held index =
+    let args = c .before .before .before .before .before .before .args in
+    let ended : c .before .loop .after ≡ 0 = omega arith in
+    sym (walk-ended nodes (nodeNumbers (args .key)) (subst (Cursor nodes (nodeNumbers (args .key))) ended (c .before .loop .inv nodes held index)))
+
+pub holds-node-spec : {M : Type 1} → statement M
+holds-node-spec =
+    tie.close
+    (tie.spec
+    Inv-loop
+    μ-loop
+    slot-requires
+    add-word
+    word-requires
+    loop-holds
+    sub-i
+    has-record-requires
+    returns
+    past-last-requires
+    loop-less
+    loop-again
+    returns-2)
