@@ -2,7 +2,7 @@
 ghost use mathlib.Core.Path.{_≡_};
 ghost use mathlib.Core.List.{List};
 ghost use mathlib.Core.Option.{some};
-ghost use Prim.Native.Nat.{ℕ, _+_, _%_, _≤_, _<_};
+ghost use Prim.Native.Nat.{ℕ, _+_, _≤_, _<_};
 ghost use lib.ListN.{length};
 ghost use Rattle.format.specs.Text.{Bytes};
 ghost use Rattle.format.specs.File.{Row, File};
@@ -18,6 +18,8 @@ use crate::entered::Entered;
 use crate::entered::early_number;
 use crate::entered::is_well;
 use crate::entered::read_row;
+use crate::numbers::narrow;
+use crate::numbers::place;
 use crate::state::Counts;
 use crate::state::Stepped;
 use crate::state::refused;
@@ -29,18 +31,6 @@ use tables::records::put_row;
 use tables::records::put_side;
 use text::Fields;
 use text::Optional;
-
-fn narrow(x: u32) -> u16
-    ensures { λ r. ⌜ r ≡ x % 65536 ⌝ }
-{
-    (x % 65536) as u16
-}
-
-fn place(x: usize) -> u16
-    ensures { λ r. ⌜ r ≡ x % 65536 ⌝ }
-{
-    (x % 65536) as u16
-}
 
 // The principal formula as a number of a table, 65,535 if absent.
 fn principal_number(principal: Optional) -> u16

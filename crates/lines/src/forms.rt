@@ -1,7 +1,6 @@
 // F lines.
 ghost use mathlib.Core.Path.{_≡_};
 ghost use mathlib.Core.Option.{none, some};
-ghost use Prim.Native.Nat.{_%_};
 ghost use lib.ListN.{length};
 ghost use Rattle.format.specs.File.{Node, Body};
 ghost use Rattle.format.specs.Line.{nodeOf};
@@ -10,6 +9,7 @@ ghost use Rattle.text.specs.Answers.{Fielded};
 ghost use Rattle.lines.specs.Lined.{OfKind};
 ghost use Rattle.lines.specs.Drafts.{writtenAs, narrowed, FormulaNumbered, FormulaLined};
 use crate::entered::field;
+use crate::numbers::narrow;
 use crate::state::Counts;
 use crate::state::Stepped;
 use crate::state::refused;
@@ -115,12 +115,6 @@ fn refers_ahead(node: Written, counts: Counts) -> bool
         return false;
     }
     counts.formulas <= second
-}
-
-fn narrow(x: u32) -> u16
-    ensures { λ r. ⌜ r ≡ x % 65536 ⌝ }
-{
-    (x % 65536) as u16
 }
 
 // The record of a formula whose operands are earlier.

@@ -5,6 +5,7 @@ mod derivation;
 mod entered;
 mod forms;
 mod names;
+mod numbers;
 pub mod state;
 
 ghost use Rattle.lines.specs.Stepping.{tables, LineStepped};

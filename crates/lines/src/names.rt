@@ -1,11 +1,12 @@
 // A lines.
 ghost use mathlib.Core.Path.{_≡_};
-ghost use Prim.Native.Nat.{_≤_, _%_};
+ghost use Prim.Native.Nat.{_≤_};
 ghost use lib.ListN.{length};
 ghost use Rattle.text.specs.Answers.{between, Fielded};
 ghost use Rattle.lines.specs.Lined.{OfKind};
 ghost use Rattle.lines.specs.Drafts.{AtomNumbered, AtomLined};
 use crate::entered::field;
+use crate::numbers::place;
 use crate::state::Counts;
 use crate::state::Stepped;
 use crate::state::refused;
@@ -15,12 +16,6 @@ use text::Fields;
 use text::Number;
 use text::is_name;
 use text::read_number;
-
-fn narrow(x: usize) -> u16
-    ensures { λ r. ⌜ r ≡ x % 65536 ⌝ }
-{
-    (x % 65536) as u16
-}
 
 // The first of the numbers 4 to 6 that applies to an atom, 0 if none does.
 fn atom_number(text: &[u8], names: &[u16], counts: Counts, n: u32, name: &[u8]) -> u32
@@ -73,7 +68,7 @@ pub(crate) fn atom_line(
     }
     let atoms = counts.atoms;
     let name_start = start + 3 + number_field.len();
-    put_name(names, atoms, narrow(name_start), narrow(name.len()));
+    put_name(names, atoms, place(name_start), place(name.len()));
     let mut next = counts;
     next.atoms = atoms + 1;
     next.stage = 0;

@@ -73,11 +73,11 @@ add-name-start-2 c =
     let pre = c .before .before .before .before .before .before .before .before .before .before .before .before .before .before .pre in
     omega (arith, name-fits _ _ _ (pre .0) (pre .1) _ (pre .2) (pre .3) (c .before .before .before .before .before .before .before .before .before .before .if1 .left), ap length (c .before .before .before .before .before .before .before .before .field .ensures))
 
-narrow-requires : tie.Need-narrow-requires
-narrow-requires c κs = search needs
+place-requires : tie.Need-place-requires
+place-requires c κs = search needs
 
-narrow-requires-2 : tie.Need-narrow-requires-2
-narrow-requires-2 c κs = search needs
+place-requires-2 : tie.Need-place-requires-2
+place-requires-2 c κs = search needs
 
 put-name-requires : tie.Need-put-name-requires
 put-name-requires c κs = search needs
@@ -97,7 +97,7 @@ returns-4 c =
     let numbers = numbered-as (c .before .before .before .before .before .before .before .before .before .field2 .ensures) (c .before .before .before .before .before .before .before .atom-number .ensures) in
     atom-lined _ _ _ _ _ _ (atom-read _ _ (pre .2) (pre .3) three _ value) _ numbers
     (name-fits _ _ _ (pre .0) (pre .1) _ (pre .2) (pre .3) three) (name-stands _ _ _ (pre .0) (pre .1) _ (pre .2) (pre .3) three) (c .before .before .before .before .before .before .if2 .left)
-    _ _ (c .before .before .before .before .narrow .ensures ∙ ap (λ (x : Bytes). (c .before .before .before .before .before .before .before .before .before .before .before .before .before .before .before .before .before .before .before .before .args .start + 3 + length x) % 65536) first) (c .before .before .before .narrow2 .ensures ∙ ap (λ (x : Bytes). length x % 65536) (c .before .before .before .before .before .before .before .before .before .field2 .ensures)) _ (c .before .before .put-name .ensures)
+    _ _ (c .before .before .before .before .place .ensures ∙ ap (λ (x : Bytes). (c .before .before .before .before .before .before .before .before .before .before .before .before .before .before .before .before .before .before .before .before .args .start + 3 + length x) % 65536) first) (c .before .before .before .place2 .ensures ∙ ap (λ (x : Bytes). length x % 65536) (c .before .before .before .before .before .before .before .before .before .field2 .ensures)) _ (c .before .before .put-name .ensures)
 
 pub atom-line-spec : {M : Type 1} → statement M
 atom-line-spec =
@@ -121,8 +121,8 @@ atom-line-spec =
     returns-3
     add-name-start
     add-name-start-2
-    narrow-requires
-    narrow-requires-2
+    place-requires
+    place-requires-2
     put-name-requires
     add-next
     same-length-2
