@@ -19,7 +19,7 @@ use Rattle.format.specs.Tests.{unknownFormula}
 use Rattle.tables.proofs.Sets.{any-iff, all-iff}
 use Rattle.rows.specs.Ground.{Formulas}
 use Rattle.rows.specs.Shapes.{shapeIn}
-use Rattle.rows.specs.Literals.{atomBut, atomsBut, at, isAtom, isNegated, isDoubled, isFalsum, isVerum, isOther, someShape}
+use Rattle.rows.specs.Literals.{atomBut, atomsBut, at, isAtom, isNegated, isFalsum, isVerum, isOther, someShape}
 use Rattle.rows.specs.declared.shapes.Shape.{Shape}
 use Rattle.rows.specs.declared.shapes.Shape.the-variants.{Falsum, Atom, Verum, Negated, Doubled, Conjunction, Disjunction, Other}
 use Rattle.rows.proofs.Decoded.{in-decoded, decoded-in, side-known}
@@ -47,7 +47,7 @@ module _ (test : ℕ → Bool) (side : List ℕ) where
   pass-ends found i h p = sym (p ∙ ap (λ (xs : List ℕ). found || any test xs) (drop-of-length-le side h) ∙ or-false found)
 
 module _ (test : Shape → Bool) (formulas side : List ℕ) where
-  pub some-iff : (someShape test formulas side ≡ true) ↔ ((x : ℕ) × (x ∈ side) × (test (shapeIn formulas x) ≡ true))
+  some-iff : (someShape test formulas side ≡ true) ↔ ((x : ℕ) × (x ∈ side) × (test (shapeIn formulas x) ≡ true))
   unfolding someShape
   some-iff = any-iff (λ x. test (shapeIn formulas x)) side
 
@@ -66,10 +66,10 @@ module _ (test : Shape → Bool) (formulas side : List ℕ) where
       by false k = refl
 
 -- what shows a formula passes its test, and nothing else does
-pub at-own : (p : ℕ) → p < 64 → at p p ≡ true
+at-own : (p : ℕ) → p < 64 → at p p ≡ true
 at-own p h = and-eq-true-iff (eqb p p) (ltb p 64) .1 (eq-eqb p p refl, lt-ltb p 64 h)
 
-pub at-same : (i p : ℕ) → at i p ≡ true → p ≡ i
+at-same : (i p : ℕ) → at i p ≡ true → p ≡ i
 at-same i p e = sym (eqb-true i p (and-eq-true-iff (eqb i p) (ltb p 64) .0 e .0))
 
 module _ {b : Body} where

@@ -18,6 +18,7 @@ pub mod Shown
 pub mod Collected
 pub mod LiteralRules
 pub mod UnstableSteps
+pub mod UnstableFixes
 pub mod UnstableRule
 pub mod ChoiceSets
 pub mod UnstableInstances

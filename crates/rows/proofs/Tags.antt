@@ -69,12 +69,12 @@ no-disjuncts (Conjunction i j) n = refl
 no-disjuncts (Disjunction i j) n = absurd (n refl)
 no-disjuncts Other n = refl
 
-pub fixes-none : (set others : ℕ) (s : Shape) → tag s ≢ 3 → tag s ≢ 4 → fixesAtom set others s ≡ false
-fixes-none set others Falsum n m = refl
-fixes-none set others (Atom q) n m = refl
-fixes-none set others Verum n m = refl
-fixes-none set others (Negated q) n m = absurd (n refl)
-fixes-none set others (Doubled q) n m = absurd (m refl)
-fixes-none set others (Conjunction i j) n m = refl
-fixes-none set others (Disjunction i j) n m = refl
-fixes-none set others Other n m = refl
+pub fixes-none : (set others i : ℕ) (s : Shape) → tag s ≢ 3 → tag s ≢ 4 → fixesAtom set others i s ≡ false
+fixes-none set others i Falsum n m = refl
+fixes-none set others i (Atom q) n m = refl
+fixes-none set others i Verum n m = refl
+fixes-none set others i (Negated q) n m = absurd (n refl)
+fixes-none set others i (Doubled q) n m = absurd (m refl)
+fixes-none set others i (Conjunction j k) n m = refl
+fixes-none set others i (Disjunction j k) n m = refl
+fixes-none set others i Other n m = refl

@@ -2,10 +2,11 @@
 use Prim.Native.Nat.{ℕ, _^_, _<_}
 use native.Mathlib.Omega.{arith}
 use mathlib.Core.Bool.{Bool, true, false, not, true≢false, false≢true, and-eq-true-iff}
-use mathlib.Core.List.{List, [], _∷_, _++_, map, List·Memᴰ·head, List·Memᴰ·tail, List·Memᴰ·cases-cons, List·Memᴰ·not-nil, List·Memᴰ·eq-of-singleton, List·Memᴰ·append-cases, Memᴰ·append-left, Memᴰ·append-right, Memᴰ·cast}
+use mathlib.Core.List.{List, [], _∷_, _++_, map, List·Memᴰ·head, List·Memᴰ·tail, List·Memᴰ·not-nil, List·Memᴰ·eq-of-singleton, List·Memᴰ·append-cases, Memᴰ·append-left, Memᴰ·append-right, Memᴰ·cast}
 use mathlib.Core.Logic.{_↔_, _⊎_, inl, inr, ⊎-elim}
 use mathlib.Core.Option.{Option, none, some}
-use mathlib.Core.Path.{_≡_, refl, sym, ap, ap₂, subst, _∙_}
+use mathlib.Core.Path.{_≡_, refl, sym, ap, subst, _∙_}
+use borrow.Author.Tests.{eqb-true, eq-eqb}
 use lib.Dec.{eqb, eqb·suc-zero}
 use lib.ListN.{length, getD, drop}
 use Rattle.equilibrium.specs.Formula.{Formula, atom, neg, atomsOf, atomsIn}
@@ -17,103 +18,47 @@ use Rattle.elk.specs.Instance.{Choice as Chosen}
 use Rattle.elk.proofs.Entries.{UnstableTest, unstable-iff}
 use Rattle.format.specs.File.{Body, decodedAt, decoded}
 use Rattle.format.proofs.Formulas.{equal-numbers}
-use Rattle.atomset.specs.AtomSet.{has, Member, Included, Rising, members}
-use Rattle.atomset.proofs.Membership.{member-lt}
+use Rattle.atomset.specs.AtomSet.{has, Member, Rising, members}
 use Rattle.atomset.proofs.Rising.{rising-unique}
 use Rattle.atomset.proofs.Members.{members-rising, member-members, members-unique}
-use Rattle.tables.specs.Members.{coveredBy}
-use Rattle.tables.proofs.Sets.{any-iff, covered-iff}
+use Rattle.tables.proofs.Sets.{any-iff}
 use Rattle.rows.specs.Ground.{Formulas, AtomWords}
-use Rattle.rows.specs.Shapes.{shapeIn}
-use Rattle.rows.specs.Literals.{isNegated, isDoubled, Collects}
-use Rattle.rows.specs.Unstable.{onSide, choiceIn, Chooses, middlesIn, fixesAtom, restFixes, Fixes, Sided, UnstableSides}
+use Rattle.rows.specs.Unstable.{onSide, choiceIn, Chooses, middlesIn, fixesAtom, FixedBy, Fixes, Sided, UnstableSides}
 use Rattle.rows.specs.declared.shapes.Shape.{Shape}
-use Rattle.rows.specs.declared.shapes.Shape.the-variants.{Falsum, Atom, Verum, Negated, Doubled, Conjunction, Disjunction, Other}
-use Rattle.rows.specs.declared.literals.Literals.{Literals}
 use Rattle.rows.specs.declared.unstable.Choice.{Choice}
 use Rattle.rows.proofs.Decoded.{in-decoded, decoded-in, side-known, number-on}
-use Rattle.rows.proofs.NumberSides.{Small}
-use Rattle.rows.proofs.Shown.{Shows, shows-falsum, shows-atom, shows-verum, shows-negated, shows-doubled, shows-conjunction, shows-disjunction, shows-other, shown-negated, negated-shown, shown-doubled, doubled-shown}
-use Rattle.rows.proofs.Collected.{at-own, at-same, some-iff, shown, number-shown}
-use Rattle.rows.proofs.UnstableSteps.{rising-of, rest-iff, more-there}
+use Rattle.rows.proofs.Shown.{Shows, shows-falsum, shows-atom, shows-verum, shows-negated, shows-doubled, shows-conjunction, shows-disjunction, shows-other, negated-shown, doubled-shown}
+use Rattle.rows.proofs.Collected.{shown, number-shown}
+use Rattle.rows.proofs.UnstableSteps.{rising-of, more-there}
 use Rattle.rows.proofs.UnstableRule.{choice-sound, choice-complete, middles-iff}
 use Rattle.rows.proofs.ChoiceSets.{rising-atoms, chosen-part, chosen-rising, Fixing, fixed-iff, in-atoms}
 
 -- ---- the left side of the second premise
 
-is-doubled : (i : ℕ) (s : Shape) → isDoubled i s ≡ true → s ≡ Doubled i
-is-doubled i Falsum e = absurd (false≢true e)
-is-doubled i (Atom p) e = absurd (false≢true e)
-is-doubled i Verum e = absurd (false≢true e)
-is-doubled i (Negated p) e = absurd (false≢true e)
-is-doubled i (Doubled p) e = ap Doubled (at-same i p e)
-is-doubled i (Conjunction j k) e = absurd (false≢true e)
-is-doubled i (Disjunction j k) e = absurd (false≢true e)
-is-doubled i Other e = absurd (false≢true e)
+-- what fixes atom i is ~~i or ~i
+fixing : {b : Body} (set others i : ℕ) {F : Formula} {s : Shape} → Shows b F s → fixesAtom set others i s ≡ true → (Member i set × (F ≡ neg (neg (atom i)))) ⊎ (Member i others × (F ≡ neg (atom i)))
+fixing set others i shows-falsum e = absurd (false≢true e)
+fixing set others i (shows-atom l) e = absurd (false≢true e)
+fixing set others i shows-verum e = absurd (false≢true e)
+fixing set others i (shows-negated {p} l) e = let both = and-eq-true-iff (eqb i p) (has others p) .0 e in let q = eqb-true i p (both .0) in inr (ap (has others) q ∙ both .1, ap (λ j. neg (atom j)) (sym q))
+fixing set others i (shows-doubled {p} l) e = let both = and-eq-true-iff (eqb i p) (has set p) .0 e in let q = eqb-true i p (both .0) in inl (ap (has set) q ∙ both .1, ap (λ j. neg (neg (atom j))) (sym q))
+fixing set others i (shows-conjunction o) e = absurd (false≢true e)
+fixing set others i (shows-disjunction o) e = absurd (false≢true e)
+fixing set others i (shows-other u) e = absurd (false≢true e)
 
-is-negated : (i : ℕ) (s : Shape) → isNegated i s ≡ true → s ≡ Negated i
-is-negated i Falsum e = absurd (false≢true e)
-is-negated i (Atom p) e = absurd (false≢true e)
-is-negated i Verum e = absurd (false≢true e)
-is-negated i (Negated p) e = ap Negated (at-same i p e)
-is-negated i (Doubled p) e = absurd (false≢true e)
-is-negated i (Conjunction j k) e = absurd (false≢true e)
-is-negated i (Disjunction j k) e = absurd (false≢true e)
-is-negated i Other e = absurd (false≢true e)
+-- and these do
+doubled-fixes : {b : Body} (set others i : ℕ) {F : Formula} {s : Shape} → Shows b F s → F ≡ neg (neg (atom i)) → Member i set → fixesAtom set others i s ≡ true
+doubled-fixes set others i shows e m = ap (fixesAtom set others i) (doubled-shown shows e) ∙ and-eq-true-iff (eqb i i) (has set i) .1 (eq-eqb i i refl, m)
 
--- a list of 16-bit numbers is covered, with no exception, where it is part of the other
-pub part-iff : (a b : List ℕ) → Small a → (coveredBy a 65536 65536 b ≡ true) ↔ (a ⊆ b)
-part-iff a b small = (λ e z m. covered-iff a 65536 65536 b .0 e z m (λ k. omega (arith, small z m)) (λ k. omega (arith, small z m)), λ h. covered-iff a 65536 65536 b .1 (λ z m n o. h z m))
-
--- what the passes over the side say of it
-module _ {formulas side l : List ℕ} {set others : ℕ} (rises : Rising side) (rises-l : Rising l) {found : Literals} (collected : Collects formulas side found) (set-small : set < 2 ^ 64) (others-small : others < 2 ^ 64) where
-  pub fixes-parts : Fixes formulas side l set others ↔ ((l ⊆ side) × Included set (found .doubled) × Included others (found .negated) × (restFixes formulas set others side l ≡ true))
-  fixes-parts = (to, from)
-    where
-      doubled-in : (p : ℕ) → p < 64 → Member p (found .doubled) ↔ ((x : ℕ) × (x ∈ side) × (shapeIn formulas x ≡ Doubled p))
-      doubled-in p h = (
-        λ m. let f = some-iff (isDoubled p) formulas side .0 (sym (collected .doubled p) ∙ m) in (f .0, f .1, is-doubled p _ (f .2)),
-        λ f. collected .doubled p ∙ some-iff (isDoubled p) formulas side .1 (f .0, f .1, ap (isDoubled p) (f .2) ∙ at-own p h),
-      )
-
-      negated-in : (p : ℕ) → p < 64 → Member p (found .negated) ↔ ((x : ℕ) × (x ∈ side) × (shapeIn formulas x ≡ Negated p))
-      negated-in p h = (
-        λ m. let f = some-iff (isNegated p) formulas side .0 (sym (collected .negated p) ∙ m) in (f .0, f .1, is-negated p _ (f .2)),
-        λ f. collected .negated p ∙ some-iff (isNegated p) formulas side .1 (f .0, f .1, ap (isNegated p) (f .2) ∙ at-own p h),
-      )
-
-      to : Fixes formulas side l set others → (l ⊆ side) × Included set (found .doubled) × Included others (found .negated) × (restFixes formulas set others side l ≡ true)
-      to f = (
-        f .part,
-        λ p m. doubled-in p (member-lt 64 set p set-small m) .1 (f .set-fixed p m),
-        λ p m. negated-in p (member-lt 64 others p others-small m) .1 (f .others-fixed p m),
-        rest-iff formulas set others side l rises rises-l (f .part) .1 (f .rest),
-      )
-
-      from : (l ⊆ side) × Included set (found .doubled) × Included others (found .negated) × (restFixes formulas set others side l ≡ true) → Fixes formulas side l set others
-      from f = record {
-        part = f .0;
-        set-fixed = λ p m. doubled-in p (member-lt 64 set p set-small m) .0 (f .1 p m);
-        others-fixed = λ p m. negated-in p (member-lt 64 others p others-small m) .0 (f .2 p m);
-        rest = rest-iff formulas set others side l rises rises-l (f .0) .0 (f .3);
-      }
-
-fixing : {b : Body} (set others : ℕ) {F : Formula} {s : Shape} → Shows b F s → fixesAtom set others s ≡ true → (p : ℕ) × ((Member p set × (F ≡ neg (neg (atom p)))) ⊎ (Member p others × (F ≡ neg (atom p))))
-fixing set others shows-falsum e = absurd (false≢true e)
-fixing set others (shows-atom l) e = absurd (false≢true e)
-fixing set others shows-verum e = absurd (false≢true e)
-fixing set others (shows-negated {p} l) e = (p, inr (e, refl))
-fixing set others (shows-doubled {p} l) e = (p, inl (e, refl))
-fixing set others (shows-conjunction o) e = absurd (false≢true e)
-fixing set others (shows-disjunction o) e = absurd (false≢true e)
-fixing set others (shows-other u) e = absurd (false≢true e)
+negated-fixes : {b : Body} (set others i : ℕ) {F : Formula} {s : Shape} → Shows b F s → F ≡ neg (atom i) → Member i others → fixesAtom set others i s ≡ true
+negated-fixes set others i shows e m = ap (fixesAtom set others i) (negated-shown shows e) ∙ and-eq-true-iff (eqb i i) (has others i) .1 (eq-eqb i i refl, m)
 
 module _ {b : Body} {table : List ℕ} (g : Formulas b table) where
   -- the formulas that fix the choice, with those of L, are the side's
   fixes-iff : (side l : List ℕ) → Sided b side → Sided b l → (c : Chosen) → Rising (domain c) → (set others : ℕ)
       → ((p : ℕ) → Member p set ↔ (p ∈ chosen c)) → ((p : ℕ) → Member p others ↔ ((p ∈ domain c) × (p ∈ chosen c → ⊥)))
       → Fixes table side l set others ↔ (decoded (b .nodes) side ≈ (map fixed c ++ decoded (b .nodes) l))
-  fixes-iff side l ss sl c rises set others in-set in-others = (λ f. (inside f, outside f), λ e. record { part = part e; set-fixed = set-fixed e; others-fixed = others-fixed e; rest = rest e })
+  fixes-iff side l ss sl c rises set others in-set in-others = (λ f. (inside f, outside f), λ e. record { part = part e; fixed = fixed-on e; rest = rest e })
     where
       L : List Formula
       L = decoded (b .nodes) l
@@ -128,31 +73,32 @@ module _ {b : Body} {table : List ℕ} (g : Formulas b table) where
       inside f F m =
           let n = number-shown g side (ss .known) F m in
           ⊎-elim (λ k. Memᴰ·append-right (map fixed c) (Memᴰ·cast (n .2) (decoded-in b l (n .0) k)))
-          (λ k. let h = fixing set others (n .3) k in choice-fixes (h .0, ⊎-elim (λ j. inl (in-set (h .0) .0 (j .0), j .1)) (λ j. inr (in-others (h .0) .0 (j .0), j .1)) (h .1)))
+          (λ k. choice-fixes (k .0, ⊎-elim (λ j. inl (in-set (k .0) .0 (j .0), j .1)) (λ j. inr (in-others (k .0) .0 (j .0), j .1)) (fixing set others (k .0) (n .3) (k .1))))
           (f .rest (n .0) (n .1))
 
       outside : Fixes table side l set others → map fixed c ++ L ⊆ D
       outside f F m = ⊎-elim (λ k. by (fixed-iff c rises F .0 k)) (λ k. let n = in-decoded b l F k in Memᴰ·cast (n .2) (decoded-in b side (n .0) (f .part (n .0) (n .1)))) (List·Memᴰ·append-cases (map fixed c) m)
         where
+          -- of the two, the formula that fixes p is the choice's, as S and the rest are apart
           by : Fixing c F → F ∈ D
-          by (p, inl (k, e)) = let x = f .set-fixed p (in-set p .1 k) in Memᴰ·cast (e ∙ sym (shown-doubled (shown g side (ss .known) (x .0) (x .1)) (x .2))) (decoded-in b side (x .0) (x .1))
-          by (p, inr (k, e)) = let x = f .others-fixed p (in-others p .1 k) in Memᴰ·cast (e ∙ sym (shown-negated (shown g side (ss .known) (x .0) (x .1)) (x .2))) (decoded-in b side (x .0) (x .1))
+          by (p, inl (k, e)) = let x = f .fixed p (inl (in-set p .1 k)) in
+              ⊎-elim (λ j. Memᴰ·cast (e ∙ sym (j .1)) (decoded-in b side (x .0) (x .1))) (λ j. absurd (in-others p .0 (j .0) .1 k)) (fixing set others p (shown g side (ss .known) (x .0) (x .1)) (x .2))
+          by (p, inr (k, e)) = let x = f .fixed p (inr (in-others p .1 k)) in
+              ⊎-elim (λ j. absurd (k .1 (in-set p .0 (j .0)))) (λ j. Memᴰ·cast (e ∙ sym (j .1)) (decoded-in b side (x .0) (x .1))) (fixing set others p (shown g side (ss .known) (x .0) (x .1)) (x .2))
 
       part : D ≈ (map fixed c ++ L) → l ⊆ side
       part e x m = number-on b (g .held) side (ss .known) x (side-known b (g .held) l (sl .known) x m) .1 (e .1 _ (Memᴰ·append-right (map fixed c) (decoded-in b l x m)))
 
-      set-fixed : D ≈ (map fixed c ++ L) → (p : ℕ) → Member p set → (x : ℕ) × (x ∈ side) × (shapeIn table x ≡ Doubled p)
-      set-fixed e p m = let n = number-shown g side (ss .known) _ (e .1 (neg (neg (atom p))) (choice-fixes (p, inl (in-set p .0 m, refl)))) in (n .0, n .1, doubled-shown (n .3) refl)
+      fixed-on : D ≈ (map fixed c ++ L) → (p : ℕ) → Member p set ⊎ Member p others → (x : ℕ) × (x ∈ side) × FixedBy table set others x p
+      fixed-on e p (inl m) = let n = number-shown g side (ss .known) _ (e .1 (neg (neg (atom p))) (choice-fixes (p, inl (in-set p .0 m, refl)))) in (n .0, n .1, doubled-fixes set others p (n .3) refl m)
+      fixed-on e p (inr m) = let n = number-shown g side (ss .known) _ (e .1 (neg (atom p)) (choice-fixes (p, inr (in-others p .0 m, refl)))) in (n .0, n .1, negated-fixes set others p (n .3) refl m)
 
-      others-fixed : D ≈ (map fixed c ++ L) → (p : ℕ) → Member p others → (x : ℕ) × (x ∈ side) × (shapeIn table x ≡ Negated p)
-      others-fixed e p m = let n = number-shown g side (ss .known) _ (e .1 (neg (atom p)) (choice-fixes (p, inr (in-others p .0 m, refl)))) in (n .0, n .1, negated-shown (n .3) refl)
-
-      rest : D ≈ (map fixed c ++ L) → (x : ℕ) → x ∈ side → (x ∈ l) ⊎ (fixesAtom set others (shapeIn table x) ≡ true)
+      rest : D ≈ (map fixed c ++ L) → (x : ℕ) → x ∈ side → (x ∈ l) ⊎ ((p : ℕ) × FixedBy table set others x p)
       rest e x m = ⊎-elim (λ k. inr (by (fixed-iff c rises _ .0 k))) (λ k. inl (number-on b (g .held) l (sl .known) x (side-known b (g .held) side (ss .known) x m) .1 k)) (List·Memᴰ·append-cases (map fixed c) (e .0 _ (decoded-in b side x m)))
         where
-          by : Fixing c (decodedAt (b .nodes) x) → fixesAtom set others (shapeIn table x) ≡ true
-          by (p, inl (k, f)) = ap (fixesAtom set others) (doubled-shown (shown g side (ss .known) x m) f) ∙ in-set p .1 k
-          by (p, inr (k, f)) = ap (fixesAtom set others) (negated-shown (shown g side (ss .known) x m) f) ∙ in-others p .1 k
+          by : Fixing c (decodedAt (b .nodes) x) → (p : ℕ) × FixedBy table set others x p
+          by (p, inl (k, f)) = (p, doubled-fixes set others p (shown g side (ss .known) x m) f (in-set p .1 k))
+          by (p, inr (k, f)) = (p, negated-fixes set others p (shown g side (ss .known) x m) f (in-others p .1 k))
 
   -- ---- sides as sets of formulas
 

@@ -1,16 +1,14 @@
--- What each step along K, along E and along the second premise's left side makes of the answer for the whole. Any tables.
-use Prim.Native.Nat.{ℕ, zero, suc, _+_, _^_, _≤_, _<_}
-use native.Mathlib.Numerals.{add-one}
+-- What each step along K and along E makes of the answer for the whole. Any tables.
+use Prim.Native.Nat.{ℕ, _^_, _<_}
 use native.Mathlib.Omega.{arith}
 use mathlib.Core.Bool.{Bool, true, false, cond, not, _&&_, _||_, false≢true, true≢false, and-eq-true-iff}
 use mathlib.Core.List.{List, [], _∷_, List·Memᴰ·head, List·Memᴰ·tail, List·Memᴰ·cases-cons, List·Memᴰ·not-nil}
 use mathlib.Core.Logic.{_↔_, _⊎_, inl, inr, ⊎-elim, _≢_}
 use mathlib.Core.Option.{Option, none, some}
 use mathlib.Core.Path.{_≡_, refl, sym, ap, ap₂, subst, _∙_}
-use borrow.Author.Tests.{eqb-true, eq-eqb, ne-eqb, eqb-false, lt-ltb, le-ltb, ltb-true, ltb-false, not-true, not-false}
+use borrow.Author.Tests.{eqb-true, eq-eqb, ne-eqb, lt-ltb, ltb-true, not-true, not-false}
 use lib.Dec.{eqb, ltb, eqb·suc-zero}
-use lib.ListN.{length, getD, drop, drop-of-length-le}
-use lib.Seq.{drop-cons, drop-drop}
+use lib.ListN.{length, getD, drop}
 use Rattle.equilibrium.specs.Meaning.{_∈_}
 use Rattle.elk.specs.Instance.{chosen, put}
 use Rattle.elk.specs.Instance.{Choice as Chosen}
@@ -19,10 +17,9 @@ use Rattle.atomset.specs.AtomSet.{has, Member, Rising, members}
 use Rattle.atomset.proofs.Digits.{has-zero}
 use Rattle.atomset.proofs.Membership.{member-lt}
 use Rattle.atomset.proofs.Members.{member-members}
-use Rattle.atomset.proofs.Rising.{rising-below, rising-rest}
 use Rattle.rows.specs.Literals.{at as is}
 use Rattle.rows.specs.Shapes.{shapeIn}
-use Rattle.rows.specs.Unstable.{signOf, withSign, conjuncts, disjuncts, with, choiceIn, Chooses, middleIn, middlesIn, fixesAtom, startsWith, restFixes}
+use Rattle.rows.specs.Unstable.{signOf, withSign, conjuncts, disjuncts, with, choiceIn, Chooses, middleIn, middlesIn}
 use Rattle.rows.specs.declared.shapes.Shape.{Shape}
 use Rattle.rows.specs.declared.shapes.Shape.the-variants.{Conjunction, Disjunction}
 use Rattle.rows.specs.declared.unstable.Choice.{Choice}
@@ -154,110 +151,12 @@ module _ (formulas : List ℕ) (e p : ℕ) where
     pub middle-by : {other : ℕ} → sign ≡ 1 → other ≡ signOf (shapeIn formulas y) p → middleIn formulas e p ≡ eqb other 2
     middle-by k h = middle-both s ∙ ap (λ (t : Bool). t && eqb (signOf (shapeIn formulas y) p) 2) (ap (λ (k : ℕ). eqb k 1) (sym f) ∙ eq-eqb sign 1 k) ∙ ap (λ (k : ℕ). eqb k 2) (sym h)
 
--- the place j of l, met by x
-starts-at : (l : List ℕ) (j x : ℕ) → startsWith x (drop j l) ≡ (ltb j (length l) && eqb (getD l j 0) x)
-starts-at [] j x = ap (startsWith x) (drop-of-length-le {A = ℕ} [] {i = j} (omega arith)) ∙ sym (ap (λ (t : Bool). t && eqb (getD {A = ℕ} [] j 0) x) (le-ltb j 0 (omega arith)))
-starts-at (y ∷ ys) zero x = sym (ap (λ (t : Bool). t && eqb y x) (lt-ltb 0 (suc (length ys)) (omega arith)))
-starts-at (y ∷ ys) (suc j) x = starts-at ys j x ∙ ap (λ (t : Bool). t && eqb (getD ys j 0) x) (shift (ltb j (length ys)) refl)
-  where
-    shift : (t : Bool) → ltb j (length ys) ≡ t → t ≡ ltb (suc j) (suc (length ys))
-    shift true e = sym (lt-ltb (suc j) (suc (length ys)) (omega (arith, ltb-true j (length ys) e)))
-    shift false e = sym (le-ltb (suc j) (suc (length ys)) (omega (arith, ltb-false j (length ys) e)))
-
-module _ (formulas : List ℕ) (set others : ℕ) (side l : List ℕ) (i j : ℕ) (h : i < length side) where
-  on-met : Bool
-  on-met = restFixes formulas set others (drop (i + 1) side) (drop (j + 1) l)
-
-  on-missed : Bool
-  on-missed = fixesAtom set others (shapeIn formulas (getD side i 0)) && restFixes formulas set others (drop (i + 1) side) (drop j l)
-
-  rest-head : restFixes formulas set others (drop i side) (drop j l)
-      ≡ cond (ltb j (length l) && eqb (getD l j 0) (getD side i 0)) on-met on-missed
-  unfolding restFixes on-met on-missed
-  rest-head = rw (add-one i, drop-cons side i 0, ← drop-drop 1 j l, ← starts-at l j (getD side i 0))
-
-  module _ {met : Bool} (m : met ≡ (ltb j (length l) && eqb (getD l j 0) (getD side i 0))) where
-    pub rest-met : met ≡ true → restFixes formulas set others (drop i side) (drop j l) ≡ restFixes formulas set others (drop (i + 1) side) (drop (j + 1) l)
-    unfolding on-met
-    rest-met t = rest-head ∙ ap (λ (t : Bool). cond t on-met on-missed) (sym m ∙ t)
-
-    rest-fixed : {fixed : Bool} {s : Shape} → met ≡ false → fixed ≡ fixesAtom set others s → s ≡ shapeIn formulas (getD side i 0)
-        → restFixes formulas set others (drop i side) (drop j l) ≡ (fixed && restFixes formulas set others (drop (i + 1) side) (drop j l))
-    unfolding on-missed
-    rest-fixed t e k = rest-head ∙ ap (λ (t : Bool). cond t on-met on-missed) (sym m ∙ t) ∙ ap (λ (u : Bool). u && restFixes formulas set others (drop (i + 1) side) (drop j l)) (sym (e ∙ ap (fixesAtom set others) k))
-
-    module _ {fixed : Bool} {s : Shape} (n : met ≡ false) (e : fixed ≡ fixesAtom set others s) (k : s ≡ shapeIn formulas (getD side i 0)) where
-      pub rest-fails : fixed ≡ false → restFixes formulas set others (drop i side) (drop j l) ≡ false
-      rest-fails t = rest-fixed n e k ∙ ap (λ (u : Bool). u && restFixes formulas set others (drop (i + 1) side) (drop j l)) t
-
-      pub rest-next : fixed ≡ true → restFixes formulas set others (drop i side) (drop j l) ≡ restFixes formulas set others (drop (i + 1) side) (drop j l)
-      rest-next t = rest-fixed n e k ∙ ap (λ (u : Bool). u && restFixes formulas set others (drop (i + 1) side) (drop j l)) t
-
--- what stands at a place of a list is inside it
-pub stands-inside : (j n : ℕ) (same : Bool) {t : Bool} → t ≡ (ltb j n && same) → t ≡ true → j < n
-stands-inside j n same e k = ltb-true j n (and-eq-true-iff (ltb j n) same .0 (sym e ∙ k) .0)
-
-pub rest-ends : (formulas : List ℕ) (set others : ℕ) (side l : List ℕ) (i : ℕ) → length side ≤ i → restFixes formulas set others (drop i side) l ≡ true
-unfolding restFixes
-rest-ends formulas set others side l i h = ap (λ (xs : List ℕ). restFixes formulas set others xs l) (drop-of-length-le side h)
-
 -- a strictly rising list, as the relation
 pub rising-of : (xs : List ℕ) → strictlyRising xs ≡ true → Rising xs
 unfolding strictlyRising
 rising-of [] e = tt
 rising-of (x ∷ []) e = tt
 rising-of (x ∷ y ∷ ys) e = let both = and-eq-true-iff (ltb x y) (strictlyRising (y ∷ ys)) .0 e in (ltb-true x y (both .0), rising-of (y ∷ ys) (both .1))
-
--- where both lists rise and the first has all of the second, the second is met along the first
-module _ (formulas : List ℕ) (set others : ℕ) where
-  fixed : ℕ → Bool
-  fixed x = fixesAtom set others (shapeIn formulas x)
-
-  missed : (x : ℕ) (xs l : List ℕ) → Rising (x ∷ xs) → Rising l → ((z : ℕ) → z ∈ l → z ∈ x ∷ xs) → startsWith x l ≡ false → (x ∈ l → ⊥) × ((z : ℕ) → z ∈ l → z ∈ xs)
-  missed x xs [] rx rl part e = (List·Memᴰ·not-nil, λ z m. absurd (List·Memᴰ·not-nil m))
-  missed x xs (y ∷ ys) rx rl part e = (λ m. absurd (omega (arith, above x m)), λ z m. ⊎-elim (λ (k : z ≡ x). absurd (omega (arith, above z m))) (λ n. n) (List·Memᴰ·cases-cons (part z m)))
-    where
-      first : x < y
-      first = ⊎-elim (λ (k : y ≡ x). absurd (eqb-false y x e k)) (rising-below x xs rx y) (List·Memᴰ·cases-cons (part y (List·Memᴰ·head refl)))
-
-      above : (z : ℕ) → z ∈ y ∷ ys → x < z
-      above z m = ⊎-elim (λ (k : z ≡ y). omega (arith, first)) (λ n. omega (arith, first, rising-below y ys rl z n)) (List·Memᴰ·cases-cons m)
-
-  met : (x : ℕ) (xs l : List ℕ) → Rising (x ∷ xs) → Rising l → ((z : ℕ) → z ∈ l → z ∈ x ∷ xs) → startsWith x l ≡ true → (x ∈ l) × ((z : ℕ) → (z ∈ drop 1 l) ↔ ((z ∈ l) × (z ∈ xs))) × Rising (drop 1 l)
-  met x xs [] rx rl part e = absurd (false≢true e)
-  met x xs (y ∷ ys) rx rl part e = (List·Memᴰ·head (sym first), λ z. (λ m. (List·Memᴰ·tail m, later z m), back z), rising-rest y ys rl)
-    where
-      first : y ≡ x
-      first = eqb-true y x e
-
-      later : (z : ℕ) → z ∈ ys → z ∈ xs
-      later z m = ⊎-elim (λ (k : z ≡ x). absurd (omega (arith, first, rising-below y ys rl z m))) (λ n. n) (List·Memᴰ·cases-cons (part z (List·Memᴰ·tail m)))
-
-      back : (z : ℕ) → (z ∈ y ∷ ys) × (z ∈ xs) → z ∈ ys
-      back z h = ⊎-elim (λ (k : z ≡ y). absurd (omega (arith, first, rising-below x xs rx z (h .1)))) (λ n. n) (List·Memᴰ·cases-cons (h .0))
-
-  pub rest-iff : (side l : List ℕ) → Rising side → Rising l → ((z : ℕ) → z ∈ l → z ∈ side) → (restFixes formulas set others side l ≡ true) ↔ ((x : ℕ) → x ∈ side → (x ∈ l) ⊎ (fixesAtom set others (shapeIn formulas x) ≡ true))
-  unfolding restFixes
-  rest-iff [] l rs rl part = (λ e x m. absurd (List·Memᴰ·not-nil m), λ h. refl)
-  rest-iff (x ∷ xs) l rs rl part = by (startsWith x l) refl (rest-iff xs (drop 1 l)) (rest-iff xs l)
-    where
-      Later : List ℕ → Type 0
-      Later k = Rising xs → Rising k → ((z : ℕ) → z ∈ k → z ∈ xs) → (restFixes formulas set others xs k ≡ true) ↔ ((z : ℕ) → z ∈ xs → (z ∈ k) ⊎ (fixesAtom set others (shapeIn formulas z) ≡ true))
-
-      by : (t : Bool) → startsWith x l ≡ t → Later (drop 1 l) → Later l → (cond t (restFixes formulas set others xs (drop 1 l)) (fixesAtom set others (shapeIn formulas x) && restFixes formulas set others xs l) ≡ true) ↔ ((z : ℕ) → z ∈ x ∷ xs → (z ∈ l) ⊎ (fixesAtom set others (shapeIn formulas z) ≡ true))
-      by true e later same =
-          let m = met x xs l rs rl part e in
-          let ih = later (rising-rest x xs rs) (m .2) (λ z k. m .1 z .0 k .1) in (
-            λ t z k. ⊎-elim (λ (q : z ≡ x). inl (subst (λ (y : ℕ). y ∈ l) (sym q) (m .0))) (λ n. ⊎-elim (λ d. inl (m .1 z .0 d .0)) inr (ih .0 t z n)) (List·Memᴰ·cases-cons k),
-            λ h. ih .1 (λ z n. ⊎-elim (λ k. inl (m .1 z .1 (k, n))) inr (h z (List·Memᴰ·tail n))),
-          )
-      by false e later same =
-          let m = missed x xs l rs rl part e in
-          let ih = same (rising-rest x xs rs) rl (m .1) in
-          let both = and-eq-true-iff (fixesAtom set others (shapeIn formulas x)) (restFixes formulas set others xs l) in (
-            λ t z k. ⊎-elim (λ (q : z ≡ x). inr (ap (λ (y : ℕ). fixesAtom set others (shapeIn formulas y)) q ∙ both .0 t .0)) (λ n. ih .0 (both .0 t .1) z n) (List·Memᴰ·cases-cons k),
-            λ h. both .1 (⊎-elim (λ k. absurd (m .0 k)) (λ f. f) (h x (List·Memᴰ·head refl)), ih .1 (λ z n. h z (List·Memᴰ·tail n))),
-          )
 
 -- ---- a walk over the members of a word
 

@@ -50,16 +50,6 @@ isNegated i (Conjunction j k) = false
 isNegated i (Disjunction j k) = false
 isNegated i Other = false
 
-abbrev pub isDoubled : ℕ → Shape → Bool
-isDoubled i Falsum = false
-isDoubled i (Atom p) = false
-isDoubled i Verum = false
-isDoubled i (Negated p) = false
-isDoubled i (Doubled p) = at i p
-isDoubled i (Conjunction j k) = false
-isDoubled i (Disjunction j k) = false
-isDoubled i Other = false
-
 abbrev pub isFalsum : Shape → Bool
 isFalsum Falsum = true
 isFalsum (Atom p) = false
@@ -95,7 +85,6 @@ isOther Other = true
 pub record Adds (s : Shape) (found more : Literals) : Type 0 where
   pub atoms : (i : ℕ) → has (more .atoms) i ≡ (has (found .atoms) i || isAtom i s)
   pub negated : (i : ℕ) → has (more .negated) i ≡ (has (found .negated) i || isNegated i s)
-  pub doubled : (i : ℕ) → has (more .doubled) i ≡ (has (found .doubled) i || isDoubled i s)
   pub falsum : more .falsum ≡ (found .falsum || isFalsum s)
   pub verum : more .verum ≡ (found .verum || isVerum s)
   pub other : more .other ≡ (found .other || isOther s)
@@ -108,7 +97,6 @@ someShape test formulas side = any (λ x. test (shapeIn formulas x)) side
 pub record Collects (formulas side : List ℕ) (found : Literals) : Type 0 where
   pub atoms : (i : ℕ) → has (found .atoms) i ≡ someShape (isAtom i) formulas side
   pub negated : (i : ℕ) → has (found .negated) i ≡ someShape (isNegated i) formulas side
-  pub doubled : (i : ℕ) → has (found .doubled) i ≡ someShape (isDoubled i) formulas side
   pub falsum : found .falsum ≡ someShape isFalsum formulas side
   pub verum : found .verum ≡ someShape isVerum formulas side
   pub other : found .other ≡ someShape isOther formulas side

@@ -6,8 +6,8 @@ use mathlib.Core.List.{List, [], _∷_}
 use mathlib.Core.Option.{Option, none, some}
 use mathlib.Core.Path.{_≡_}
 use mathlib.Core.Logic.{_⊎_, _↔_}
-use lib.Dec.{eqb, ltb}
-use lib.ListN.{length, getD, drop}
+use lib.Dec.{eqb}
+use lib.ListN.{getD}
 use Rattle.equilibrium.specs.Formula.{Formula}
 use Rattle.equilibrium.specs.Meaning.{_∈_}
 use Rattle.elk.specs.Sequent.{_⇒_, _⨾_}
@@ -96,31 +96,23 @@ unfoldable pub middlesIn : List ℕ → ℕ → ℕ → List ℕ → Bool
 middlesIn formulas e p [] = middleIn formulas e p
 middlesIn formulas e p (q ∷ qs) = with (conjuncts (shapeIn formulas e)) false (λ o. middleIn formulas (o .0) p && middlesIn formulas (o .1) q qs)
 
--- a formula of this shape is ~~p for p in S or ~p for p in the rest
-abbrev pub fixesAtom : ℕ → ℕ → Shape → Bool
-fixesAtom set others Falsum = false
-fixesAtom set others (Atom p) = false
-fixesAtom set others Verum = false
-fixesAtom set others (Negated p) = has others p
-fixesAtom set others (Doubled p) = has set p
-fixesAtom set others (Conjunction i j) = false
-fixesAtom set others (Disjunction i j) = false
-fixesAtom set others Other = false
+-- a formula of this shape fixes atom i: it is ~~i for i in S, or ~i for i in the rest
+abbrev pub fixesAtom : ℕ → ℕ → ℕ → Shape → Bool
+fixesAtom set others i Falsum = false
+fixesAtom set others i (Atom p) = false
+fixesAtom set others i Verum = false
+fixesAtom set others i (Negated p) = eqb i p && has others p
+fixesAtom set others i (Doubled p) = eqb i p && has set p
+fixesAtom set others i (Conjunction j k) = false
+fixesAtom set others i (Disjunction j k) = false
+fixesAtom set others i Other = false
 
--- x is the first number of the list
-abbrev pub startsWith : ℕ → List ℕ → Bool
-startsWith x [] = false
-startsWith x (y ∷ ys) = eqb y x
+-- formula x fixes atom i
+abbrev pub FixedBy : List ℕ → ℕ → ℕ → ℕ → ℕ → Type 0
+FixedBy formulas set others x i = fixesAtom set others i (shapeIn formulas x) ≡ true
 
--- every formula of the side fixes an atom, but those that are met along l
-unfoldable pub restFixes : List ℕ → ℕ → ℕ → List ℕ → List ℕ → Bool
-restFixes formulas set others [] l = true
-restFixes formulas set others (x ∷ xs) l =
-    cond (startsWith x l) (restFixes formulas set others xs (drop 1 l)) (fixesAtom set others (shapeIn formulas x) && restFixes formulas set others xs l)
-
--- the side is l with ~~p for p in S and ~p for p in the rest
+-- the side is l with ~~p for p in S and ~p for p in the rest, where S and the rest are apart
 pub record Fixes (formulas side l : List ℕ) (set others : ℕ) : Type 0 where
   pub part : (x : ℕ) → x ∈ l → x ∈ side
-  pub set-fixed : (p : ℕ) → Member p set → (x : ℕ) × (x ∈ side) × (shapeIn formulas x ≡ Doubled p)
-  pub others-fixed : (p : ℕ) → Member p others → (x : ℕ) × (x ∈ side) × (shapeIn formulas x ≡ Negated p)
-  pub rest : (x : ℕ) → x ∈ side → (x ∈ l) ⊎ (fixesAtom set others (shapeIn formulas x) ≡ true)
+  pub fixed : (p : ℕ) → Member p set ⊎ Member p others → (x : ℕ) × (x ∈ side) × FixedBy formulas set others x p
+  pub rest : (x : ℕ) → x ∈ side → (x ∈ l) ⊎ ((p : ℕ) × FixedBy formulas set others x p)

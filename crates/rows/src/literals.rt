@@ -19,12 +19,10 @@ use atomset::insert;
 use atomset::is_subset;
 use tables::sides::contains;
 
-// The literals of a side: its p, ~p and ~~p as sets of atoms, whether it has # and ~#, and whether any formula that is no
-// literal of these but ~~p.
+// The literals of a side: its p and ~p as sets of atoms, whether it has # and ~#, and whether any other formula.
 pub struct Literals {
     pub atoms: u64,
     pub negated: u64,
-    pub doubled: u64,
     pub falsum: bool,
     pub verum: bool,
     pub other: bool,
@@ -52,8 +50,7 @@ fn with_literal(found: Literals, s: Shape) -> Literals
             more.negated = insert(found.negated, p);
             return more;
         }
-        Shape::Doubled(p) => {
-            more.doubled = insert(found.doubled, p);
+        Shape::Doubled(_) => {
             more.other = true;
             return more;
         }
@@ -72,13 +69,12 @@ fn with_literal(found: Literals, s: Shape) -> Literals
     }
 }
 
-pub fn literals_of(formulas: &[u16], side: &[u16]) -> Literals
+fn literals_of(formulas: &[u16], side: &[u16]) -> Literals
     ensures { λ r. ⌜ Collects (now (formulas .entry)) (now (side .entry)) r ⌝ }
 {
     let mut found = Literals {
         atoms: 0,
         negated: 0,
-        doubled: 0,
         falsum: false,
         verum: false,
         other: false,

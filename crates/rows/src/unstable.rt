@@ -17,10 +17,8 @@ ghost use Rattle.rows.specs.Ground.{Formulas, AtomWords};
 ghost use Rattle.rows.specs.Numbers.{Decides};
 ghost use Rattle.rows.specs.Judgement.{Judging, RowInstance};
 ghost use Rattle.rows.specs.Shapes.{shapeIn};
-ghost use Rattle.rows.specs.Unstable.{onSide, signOf, choiceIn, Chooses, middleIn, middlesIn, fixesAtom, restFixes, Fixes, Sided, UnstableSides};
+ghost use Rattle.rows.specs.Unstable.{onSide, signOf, choiceIn, Chooses, middleIn, middlesIn, fixesAtom, Fixes, Sided, UnstableSides};
 use crate::Draft;
-use crate::literals::literals_of;
-use crate::numbers::NO_NUMBER;
 use crate::shapes::Shape;
 use crate::shapes::shape_of;
 use atomset::contains as holds;
@@ -29,22 +27,13 @@ use atomset::first as lowest;
 use atomset::insert;
 use atomset::is_empty;
 use atomset::is_subset;
+use atomset::single;
 use atomset::union;
 use atomset::without_first;
 use tables::fetch;
+use tables::index::word;
 use tables::records::wide;
-use tables::sides::covered;
 use tables::sides::same;
-
-// The atoms of one formula.
-fn atoms_at(atoms: &[u64], x: usize) -> u64
-    ensures { λ r. ⌜ r ≡ getD (now (atoms .entry)) x 0 ⌝ }
-{
-    if x < atoms.len() {
-        return atoms[x];
-    }
-    0
-}
 
 // The atoms of the formulas of a side.
 fn atoms_of_side(atoms: &[u64], side: &[u16]) -> u64
@@ -53,7 +42,7 @@ fn atoms_of_side(atoms: &[u64], side: &[u16]) -> u64
     let mut set = 0;
     let mut i = 0;
     while i < side.len() {
-        set = union(set, atoms_at(atoms, wide(side[i])));
+        set = union(set, word(atoms, wide(side[i])));
         i += 1;
     }
     set
@@ -175,14 +164,25 @@ fn joins_middles(formulas: &[u16], e: u16, set: u64) -> bool
     excluded_middle(formulas, at, p)
 }
 
-// Whether a formula fixes an atom: ~~p fixes p to be in S, ~p to be in the rest.
-fn fixes_atom(s: Shape, set: u64, others: u64) -> bool
-    ensures { λ r. ⌜ r ≡ fixesAtom set others s ⌝ }
+// The part of the set that is atom p alone.
+fn only(set: u64, p: usize) -> u64
+    ensures { λ r. ⌜ ((i : ℕ) → hasAtom r i ≡ (eqb i p && hasAtom set p)) ⌝ }
 {
+    if holds(set, p) {
+        return single(p);
+    }
+    0
+}
+
+// The atom that formula x fixes, as a set: ~~p fixes p to be in S, ~p to be in the rest. Any other formula fixes none.
+fn fixed_by(formulas: &[u16], x: u16, set: u64, others: u64) -> u64
+    ensures { λ r. ⌜ ((i : ℕ) → hasAtom r i ≡ fixesAtom set others i (shapeIn (now (formulas .entry)) x)) ⌝ }
+{
+    let s = shape_of(formulas, x);
     match s {
-        Shape::Doubled(p) => holds(set, p),
-        Shape::Negated(p) => holds(others, p),
-        _ => false,
+        Shape::Doubled(p) => only(set, p),
+        Shape::Negated(p) => only(others, p),
+        _ => 0,
     }
 }
 
@@ -196,46 +196,32 @@ fn stands_at(l: &[u16], j: usize, x: u16) -> bool
     l[j] == x
 }
 
-// Whether every formula of the side but those of l fixes an atom: one pass with two cursors, for rising lists of which the
-// side has all of l.
-fn rest_fixes(formulas: &[u16], side: &[u16], l: &[u16], set: u64, others: u64) -> bool
-    ensures { λ r. ⌜ r ≡ restFixes (now (formulas .entry)) set others (now (side .entry)) (now (l .entry)) ⌝ }
-{
-    let mut i = 0;
-    let mut j = 0;
-    while i < side.len() {
-        let x = side[i];
-        if stands_at(l, j, x) {
-            i += 1;
-            j += 1;
-            continue;
-        }
-        let s = shape_of(formulas, x);
-        if !fixes_atom(s, set, others) {
-            return false;
-        }
-        i += 1;
-    }
-    true
-}
-
-// Whether the second premise's left side is L with ~~p for p in S and ~p for p in the rest: L is inside it, every atom is
-// fixed, and what is not of L fixes an atom.
+// Whether the second premise's left side is L with ~~p for p in S and ~p for p in the rest: what is not of L fixes an atom,
+// all of L is met, and every atom is fixed. One pass with two cursors, for rising lists.
 fn fixes(formulas: &[u16], side: &[u16], l: &[u16], set: u64, others: u64) -> bool
     ensures { λ r. ⌜ (strictlyRising (now (side .entry)) ≡ true → strictlyRising (now (l .entry)) ≡ true
         → ((r ≡ true) ↔ Fixes (now (formulas .entry)) (now (side .entry)) (now (l .entry)) set others)) ⌝ }
 {
-    if !covered(l, NO_NUMBER, NO_NUMBER, side) {
+    let mut fixed = 0;
+    let mut i = 0;
+    let mut j = 0;
+    while i < side.len() {
+        let x = side[i];
+        let by_x = fixed_by(formulas, x, set, others);
+        fixed = union(fixed, by_x);
+        i += 1;
+        if stands_at(l, j, x) {
+            j += 1;
+            continue;
+        }
+        if is_empty(by_x) {
+            return false;
+        }
+    }
+    if j < l.len() {
         return false;
     }
-    let found = literals_of(formulas, side);
-    if !is_subset(set, found.doubled) {
-        return false;
-    }
-    if !is_subset(others, found.negated) {
-        return false;
-    }
-    rest_fixes(formulas, side, l, set, others)
+    is_subset(union(set, others), fixed)
 }
 
 // Whether a row and its premises with these sides are an instance of `unst`, whatever the row's right side.

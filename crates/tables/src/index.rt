@@ -27,7 +27,7 @@ fn slot(key: NodeRecord) -> usize
 }
 
 // A word, 0 outside of the table.
-pub(crate) fn word(words: &[u64], at: usize) -> u64
+pub fn word(words: &[u64], at: usize) -> u64
     ensures { λ r. ⌜ r ≡ getD (now (words .entry)) at 0 ⌝ }
 {
     if at < words.len() {

@@ -6,6 +6,7 @@ pub mod ListLaws
 -- For the proofs of this crate.
 mod All
 mod Numbers
+mod Digits
 mod Names
 mod Lists
 mod Words

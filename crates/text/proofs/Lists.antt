@@ -1,6 +1,6 @@
 -- What one more entry does to a list, and to what its reader knows of it.
 -- Assumes nothing.
-use Prim.Native.Nat.{ℕ, suc, _+_, _≤_, _<_, min, max}
+use Prim.Native.Nat.{ℕ, suc, _+_, _-_, _≤_, _<_, min, max}
 use mathlib.Core.Path.{_≡_, refl, sym, ap, ap₂, _∙_}
 use mathlib.Core.Bool.{Bool, true, false, _&&_}
 use mathlib.Core.List.{List, [], _∷_, _++_, append-assoc, append-nil}
@@ -8,16 +8,16 @@ use mathlib.Core.Option.{Option, none, some}
 use native.Mathlib.Numerals.{lt-of-le-of-ne}
 use native.Mathlib.Omega.{arith}
 use lib.Dec.{ltb}
-use lib.ListN.{length, drop, set, length-append}
-use borrow.Author.Tests.{lt-ltb, le-ltb, ltb-true, ltb-false}
+use lib.ListN.{length, getD, take, drop, set, length-append, length-take, length-drop}
+use borrow.Author.Tests.{lt-ltb, le-ltb, ltb-true}
 use Rattle.format.specs.Text.{comma, partsAt, each, is, listOf, numberOf, strictlyRising, _<$>_, _<*>_}
-use Rattle.text.specs.Scan.{nextAt}
+use Rattle.text.specs.Scan.{before, nextAt}
 use Rattle.text.specs.Answers.{largest, laidOver, listedAs, between, numberAs, ListedInto}
-use Rattle.text.specs.Inner.{entryAs, entryAt, Holds}
-use Rattle.text.specs.declared.Number.{Number}
+use Rattle.text.specs.Inner.{digits, entryAs, numberAt, entryAt, Holds}
 use Rattle.text.specs.declared.Entry.{Entry}
 use Rattle.text.specs.declared.Listed.{Listed}
-use Rattle.text.proofs.Scan.{next-bounds, next-part, last-part, first-part}
+use Rattle.text.proofs.Scan.{next-inside, next-found, next-least, next-bounds, next-part, last-part, first-part}
+use Rattle.text.proofs.Digits.{digits-to-comma, was-bad, was-value, part-bad, part-within, part-cut, part-full}
 
 largest-last : (xs : List ℕ) (n : ℕ) → largest (xs ++ n ∷ []) ≡ max (largest xs) n
 unfolding largest
@@ -72,6 +72,53 @@ entered-below listed n (x ∷ xs) e filled h =
     let at-most : n ≤ largest (x ∷ xs) = omega (arith, ap (λ l. l .largest) e) in
     same-listing (counted listed n (x ∷ xs) e) (omega (arith, largest-last (x ∷ xs) n, ap (λ l. l .largest) e)) (sym (not-rising-last x xs n at-most))
 
+-- ---- an entry
+
+module _ (field : List ℕ) (at : ℕ) (inside : at ≤ length field) where
+  part : List ℕ
+  part = between field at (nextAt comma field at)
+
+  part-end : at + length part ≡ nextAt comma field at
+  unfolding part
+  part-end = omega (arith, length-take (nextAt comma field at - at) (drop at field), length-drop at field, next-bounds comma field at inside)
+
+  part-digits : digits part ≡ digits (drop at field)
+  unfolding part
+  part-digits =
+      let size : nextAt comma field at - at ≡ before comma (drop at field) = omega (arith, next-inside comma field at inside) in
+      ap (λ n. digits (take n (drop at field))) size ∙ digits-to-comma (drop at field)
+
+  entry-is : (o : Option ℕ) → numberOf part ≡ o → entryAs (numberAs o) (nextAt comma field at) ≡ entryAt field at
+  unfolding entryAt part
+  entry-is o e = ap (λ o. entryAs (numberAs o) (nextAt comma field at)) (sym e)
+
+  pub entry-bad : numberAt field at ≡ Entry.Bad → Entry.Bad ≡ entryAt field at
+  entry-bad e = entry-is none (part-bad field at part part-digits e)
+
+  module _ (n end : ℕ) (e : numberAt field at ≡ Entry.Value n end) where
+    up-to : (at ≤ end) × (end ≤ nextAt comma field at)
+    up-to = omega (arith, part-within field at part part-digits n end e, part-end)
+
+    entry-full : nextAt comma field at ≤ end → Entry.Value n end ≡ entryAt field at
+    entry-full h =
+        let there : end ≡ nextAt comma field at = omega (arith, up-to) in
+        ap (Entry.Value n) there ∙ entry-is (some n) (part-full field at part part-digits n end e (omega (arith, part-end)))
+
+    pub entry-last : end ≡ length field → Entry.Value n end ≡ entryAt field at
+    entry-last h = entry-full (omega (arith, next-bounds comma field at inside))
+
+    module _ (not-last : end ≡ length field → ⊥) where
+      pub entry-inside : end < length field
+      entry-inside = lt-of-le-of-ne (omega (arith, up-to, next-bounds comma field at inside)) not-last
+
+      pub entry-parted : getD field end 0 ≡ comma → Entry.Value n end ≡ entryAt field at
+      entry-parted c = entry-full (next-least comma field at end (up-to .0) entry-inside c)
+
+      pub entry-stray : (getD field end 0 ≡ comma → ⊥) → Entry.Bad ≡ entryAt field at
+      entry-stray c =
+          let past : end < nextAt comma field at = lt-of-le-of-ne (up-to .1) (λ there. c (ap (λ k. getD field k 0) there ∙ next-found comma field at inside (omega (arith, entry-inside)))) in
+          entry-is none (part-cut field at part part-digits n end e (omega (arith, part-end)))
+
 -- ---- a turn of the reader
 
 laid-last : (xs : List ℕ) (n : ℕ) (was : List ℕ) → laidOver (xs ++ n ∷ []) was ≡ set (laidOver xs was) (length xs) (min n 65535)
@@ -97,10 +144,6 @@ one-more xs n was is is′ listed r h stored known =
 
 some-injective : (xs ys : List ℕ) → some xs ≡ some ys → xs ≡ ys
 some-injective xs ys e = cc
-
-pub entry-is : (field : List ℕ) (at end : ℕ) (number : Number) → end ≡ nextAt comma field at → number ≡ numberAs (numberOf (between field at end)) → entryAs number end ≡ entryAt field at
-unfolding entryAt
-entry-is field at end number e r = ap₂ entryAs (r ∙ ap (λ k. numberAs (numberOf (between field at k))) e) e
 
 -- what is read, in front of what is left
 infixr 30 _then_
@@ -167,46 +210,38 @@ module _ (field was out : List ℕ) (listed : Listed) (at : ℕ) (l : Listing fi
       let bad : listOf field ≡ none = whole-by none (was-bad next (nextAt comma field at) e) in
       record { answer = ap listedAs (sym bad); stored = λ xs h. absurd (none-some xs (sym bad ∙ h)); kept = listing-length }
     where
-      was-bad : (o : Option ℕ) (end : ℕ) → entryAs (numberAs o) end ≡ Entry.Bad → o ≡ none
-      was-bad none end e = refl
-      was-bad (some n) end e = let z : _≡_ {A = ℕ} 0 1 = cc in absurd (omega arith)
-
       none-some : (xs : List ℕ) → none ≡ some xs → ⊥
       none-some xs e = let z : _≡_ {A = ℕ} 0 1 = cc in omega arith
 
   module _ (n end : ℕ) (e : entryAt field at ≡ Entry.Value n end) where
-    was-value : (next ≡ some n) × (nextAt comma field at ≡ end)
+    value-read : (next ≡ some n) × (nextAt comma field at ≡ end)
     unfolding entryAt next
-    was-value = by-case next (nextAt comma field at) e
-      where
-        by-case : (o : Option ℕ) (k : ℕ) → entryAs (numberAs o) k ≡ Entry.Value n end → (o ≡ some n) × (k ≡ end)
-        by-case none k e = let z : _≡_ {A = ℕ} 0 1 = cc in absurd (omega arith)
-        by-case (some m) k e = (cc, cc)
+    value-read = was-value next (nextAt comma field at) n end e
 
     pub entry-bounds : (at ≤ end) × (end ≤ length field)
-    entry-bounds = rw (was-value .1) at (next-bounds comma field at (l .within))
+    entry-bounds = rw (value-read .1) at (next-bounds comma field at (l .within))
 
     whole-one : listOf field ≡ (l .entries ++ n ∷ []) then later
-    whole-one = whole-by (some n) (was-value .0) ∙ then-one (l .entries) n later
+    whole-one = whole-by (some n) (value-read .0) ∙ then-one (l .entries) n later
 
     module _ (out′ : List ℕ) (listed′ : Listed) (h : Holds (l .entries ++ n ∷ []) was out′ listed′) where
       pub listing-more : (end ≡ length field → ⊥) → Listing field was out′ listed′ (end + 1)
       unfolding later
       listing-more not-last =
           let inside : end < length field = lt-of-le-of-ne (entry-bounds .1) not-last in
-          let rest = next-part comma field at (l .within) (rw (was-value .1) inside) in
+          let rest = next-part comma field at (l .within) (rw (value-read .1) inside) in
           record {
             entries = l .entries ++ n ∷ [];
             holds = h;
             few = omega (arith, length-append (l .entries) (n ∷ []), l .few, entry-bounds);
             within = omega arith;
-            whole = whole-one ∙ ap (λ parts. (l .entries ++ n ∷ []) then each numberOf parts) (ap (drop 1) rest ∙ ap (λ k. partsAt comma (drop (k + 1) field)) (was-value .1));
+            whole = whole-one ∙ ap (λ parts. (l .entries ++ n ∷ []) then each numberOf parts) (ap (drop 1) rest ∙ ap (λ k. partsAt comma (drop (k + 1) field)) (value-read .1));
           }
 
       pub listed-last : end ≡ length field → ListedInto field was out′ listed′
       unfolding later
       listed-last last =
-          let rest = last-part comma field at (l .within) (was-value .1 ∙ last) in
+          let rest = last-part comma field at (l .within) (value-read .1 ∙ last) in
           let full : listOf field ≡ some (l .entries ++ n ∷ []) =
           whole-one ∙ ap (λ parts. (l .entries ++ n ∷ []) then each numberOf (drop 1 parts)) rest ∙ ap some (append-nil (l .entries ++ n ∷ [])) in
           record {

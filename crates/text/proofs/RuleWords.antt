@@ -11,7 +11,7 @@ use Rattle.elk.specs.Rules.{Rule, rules, codeOf, wordOf}
 use Rattle.format.specs.Text.{Bytes, bytes, is}
 use Rattle.format.specs.Line.{ruleAmong, ruleOf}
 use Rattle.text.specs.Words.{ruleCode}
-use Rattle.text.specs.Inner.{keyOf, isShort, IsKey, wordKey, codeAmong}
+use Rattle.text.specs.Inner.{isShort, IsKey, wordKey, codeAmong}
 use Rattle.text.proofs.All.{both}
 
 abbrev allShort : List Rule → Bool

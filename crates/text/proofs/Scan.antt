@@ -1,6 +1,6 @@
 -- What a scan for a separator says of the parts that separators bound.
 -- Assumes nothing.
-use Prim.Native.Nat.{ℕ, suc, _+_, _-_, _≤_, _<_}
+use Prim.Native.Nat.{ℕ, zero, suc, _+_, _-_, _≤_, _<_}
 use mathlib.Core.Path.{_≡_, refl, sym, ap, ap₂, _∙_}
 use mathlib.Core.Bool.{Bool, true, false, cond}
 use mathlib.Core.List.{[], _∷_}
@@ -8,8 +8,8 @@ use native.Mathlib.Numerals.{add-one}
 use native.Mathlib.Omega.{arith}
 use lib.Dec.{eqb, ltb}
 use lib.ListN.{length, getD, take, drop, length-drop}
-use lib.Seq.{drop-cons, drop-drop, take-all}
-use borrow.Author.Tests.{eq-eqb, ne-eqb, ltb-true, ltb-false}
+use lib.Seq.{drop-cons, drop-drop, getD-drop, take-all}
+use borrow.Author.Tests.{eq-eqb, ne-eqb, eqb-true, ltb-true, ltb-false}
 use Rattle.format.specs.Text.{Bytes, partsAt, onto}
 use Rattle.text.specs.Scan.{before, nextAt}
 
@@ -23,6 +23,26 @@ before-le separator (b ∷ bs) = by-test (eqb b separator) (before-le separator 
     by-test : (t : Bool) → before separator bs ≤ length bs → cond t 0 (suc (before separator bs)) ≤ suc (length bs)
     by-test true h = omega arith
     by-test false h = omega arith
+
+before-found : (separator : ℕ) (bs : Bytes) → before separator bs < length bs → getD bs (before separator bs) 0 ≡ separator
+unfolding before
+before-found separator [] h = absurd (omega arith)
+before-found separator (b ∷ bs) h = by-test (eqb b separator) refl h (before-found separator bs)
+  where
+    by-test : (t : Bool) → eqb b separator ≡ t → cond t 0 (suc (before separator bs)) < suc (length bs)
+        → (before separator bs < length bs → getD bs (before separator bs) 0 ≡ separator) → getD (b ∷ bs) (cond t 0 (suc (before separator bs))) 0 ≡ separator
+    by-test true e h rest = eqb-true b separator e
+    by-test false e h rest = rest (omega arith)
+
+before-least : (separator : ℕ) (bs : Bytes) (i : ℕ) → i < length bs → getD bs i 0 ≡ separator → before separator bs ≤ i
+unfolding before
+before-least separator [] i h e = absurd (omega arith)
+before-least separator (b ∷ bs) zero h e = rw (eq-eqb b separator e) (omega arith)
+before-least separator (b ∷ bs) (suc i) h e = by-test (eqb b separator) (before-least separator bs i (omega arith) e)
+  where
+    by-test : (t : Bool) → before separator bs ≤ i → cond t 0 (suc (before separator bs)) ≤ suc i
+    by-test true rest = omega arith
+    by-test false rest = omega arith
 
 parts-whole : (separator : ℕ) (bs : Bytes) → before separator bs ≡ length bs → partsAt separator bs ≡ bs ∷ []
 unfolding before partsAt
@@ -54,9 +74,19 @@ module _ (separator : ℕ) (bs : Bytes) (start : ℕ) where
   unfolding nextAt
   next-none h = omega arith
 
-  next-inside : start ≤ length bs → nextAt separator bs start ≡ start + before separator (drop start bs)
+  pub next-inside : start ≤ length bs → nextAt separator bs start ≡ start + before separator (drop start bs)
   unfolding nextAt
   next-inside h = omega (arith, before-le separator (drop start bs), length-drop start bs)
+
+  pub next-found : start ≤ length bs → nextAt separator bs start < length bs → getD bs (nextAt separator bs start) 0 ≡ separator
+  next-found h l =
+      rw (next-inside h, ← getD-drop) (before-found separator (drop start bs) (omega (arith, next-inside h, length-drop start bs)))
+
+  pub next-least : (i : ℕ) → start ≤ i → i < length bs → getD bs i 0 ≡ separator → nextAt separator bs start ≤ i
+  next-least i f l e =
+      let there : start + (i - start) ≡ i = omega arith in
+      let least = before-least separator (drop start bs) (i - start) (omega (arith, length-drop start bs)) (getD-drop start bs (i - start) 0 ∙ ap (λ k. getD bs k 0) there ∙ e) in
+      omega (arith, least, next-inside (omega arith))
 
   pub next-here : start < length bs → getD bs start 0 ≡ separator → nextAt separator bs start ≡ start
   unfolding before

@@ -5,7 +5,7 @@ use mathlib.Core.Bool.{Bool, true, cond, _&&_, _||_}
 use mathlib.Core.List.{List, [], _∷_}
 use mathlib.Core.Option.{some}
 use lib.Dec.{eqb, leb, ltb}
-use lib.ListN.{length}
+use lib.ListN.{length, drop}
 use Rattle.elk.specs.Rules.{Rule, codeOf, wordOf}
 use Rattle.format.specs.Text.{Bytes, bytes, comma, all, isDigit, isLetter, numberOf, sameList}
 use Rattle.text.specs.Scan.{nextAt}
@@ -18,6 +18,15 @@ use Rattle.text.specs.declared.Listed.{Listed}
 abbrev pub entryAs : Number → ℕ → Entry
 entryAs Number.Bad end = Entry.Bad
 entryAs (Number.Value n) end = Entry.Value n end
+
+-- the digits at the start
+unfoldable pub digits : Bytes → Bytes
+digits [] = []
+digits (b ∷ bs) = cond (isDigit b) (b ∷ digits bs) []
+
+-- the number that the run of digits from a place on writes
+unfoldable pub numberAt : Bytes → ℕ → Entry
+numberAt field start = entryAs (numberAs (numberOf (digits (drop start field)))) (start + length (digits (drop start field)))
 
 -- the entry that starts at a place, up to the next comma
 unfoldable pub entryAt : Bytes → ℕ → Entry

@@ -2,22 +2,23 @@
 // answer is by the definitions of the crate `format`, or by one of `specs/` over them. No function that is `pub`
 // assumes anything of its bytes.
 ghost use mathlib.Core.Path.{_≡_};
+ghost use mathlib.Core.Bool.{true};
 ghost use mathlib.Core.List.{List, [], _∷_, _++_};
 ghost use mathlib.Core.Option.{some};
 ghost use Prim.Native.Nat.{ℕ, _+_, _*_, _^_, _≤_, _<_, min};
 ghost use lib.ListN.{length, set};
-ghost use Rattle.format.specs.Text.{is, isDigit, isLetter, isName, numberOf, principalOf};
+ghost use Rattle.format.specs.Text.{tab, is, isDigit, isLetter, isName, numberOf, principalOf};
 ghost use Rattle.elk.specs.Rules.{rules};
 ghost use Rattle.format.specs.Line.{ruleOf};
 ghost use Rattle.text.specs.Scan.{nextAt};
 ghost use Rattle.text.specs.Words.{kindOf, formulaWord, ruleCode};
 ghost use Rattle.text.specs.Answers.{numberAs, principalAs, Fielded, listedAs, ListedInto};
-ghost use Rattle.text.specs.Inner.{nameByte, IsKey, codeAmong, entryAt, Holds};
+ghost use Rattle.text.specs.Inner.{numberAt, entryAt, Holds, nameByte, IsKey, codeAmong};
 
 // ---- parts
 
 // The index of the first such byte at or after `from`, or the length of `bytes` where there is none.
-pub fn find(bytes: &[u8], from: usize, byte: u8) -> usize
+fn find_near(bytes: &[u8], from: usize, byte: u8) -> usize
     ensures { λ r. ⌜ r ≡ nextAt byte (now (bytes .entry)) from ⌝ }
 {
     let mut at = from;
@@ -28,6 +29,54 @@ pub fn find(bytes: &[u8], from: usize, byte: u8) -> usize
         at += 1;
     }
     bytes.len()
+}
+
+// None of the 16 bytes from `at` on is `byte`. Every one is looked at, so that all can be compared at once.
+fn block_lacks(bytes: &[u8], at: usize, byte: u8) -> bool
+    requires { ⌜ at + 16 ≤ length (now bytes) ⌝ }
+    ensures { λ r. ⌜ (r ≡ true → nextAt byte (now (bytes .entry)) at ≡ nextAt byte (now (bytes .entry)) (at + 16)) ⌝ }
+{
+    let mut lacks = true;
+    for i in at..at + 16 {
+        if bytes[i] == byte {
+            lacks = false;
+        }
+    }
+    lacks
+}
+
+// The index past the blocks of 16 bytes, from `from` on, that lack the byte.
+fn skip_blocks(bytes: &[u8], from: usize, byte: u8) -> usize
+    ensures { λ r. ⌜ nextAt byte (now (bytes .entry)) from ≡ nextAt byte (now (bytes .entry)) r ⌝ }
+{
+    let mut at = from;
+    while at < bytes.len() {
+        if bytes.len() - at < 16 {
+            return at;
+        }
+        if !block_lacks(bytes, at, byte) {
+            return at;
+        }
+        at += 16;
+    }
+    at
+}
+
+// The same as `find_near`, and faster where the byte is far.
+pub fn find(bytes: &[u8], from: usize, byte: u8) -> usize
+    ensures { λ r. ⌜ r ≡ nextAt byte (now (bytes .entry)) from ⌝ }
+{
+    find_near(bytes, skip_blocks(bytes, from, byte), byte)
+}
+
+// Where the field that starts at `at` ends. The fields of a short line are short.
+fn field_end(line: &[u8], at: usize) -> usize
+    ensures { λ r. ⌜ r ≡ nextAt tab (now (line .entry)) at ⌝ }
+{
+    if line.len() < 128 {
+        return find_near(line, at, b'\t');
+    }
+    find(line, at, b'\t')
 }
 
 // How many fields a line has, and where each of the first seven ends. Field 0 starts at 0, and each other one past the end of
@@ -45,7 +94,7 @@ pub fn read_fields(line: &[u8]) -> Fields
     let mut count: usize = 0;
     let mut at: usize = 0;
     loop {
-        let end = find(line, at, b'\t');
+        let end = field_end(line, at);
         if count < 7 {
             ends[count] = end;
         }
@@ -88,33 +137,55 @@ fn wide32(b: u8) -> u32
     b as u32
 }
 
+// A number within a field, and where it ends.
+enum Entry {
+    Value(u32, usize),
+    Bad,
+}
+
+// The number that the run of digits from `at` on writes.
+fn number_at(field: &[u8], at: usize) -> Entry
+    requires { ⌜ at ≤ length (now field) ⌝ }
+    ensures { λ r. ⌜ r ≡ numberAt (now (field .entry)) at ⌝ }
+{
+    let mut value = 0u32;
+    let mut end = at;
+    while end < field.len() {
+        let b = field[end];
+        if !is_digit(b) {
+            break;
+        }
+        if end - at == 5 {
+            return Entry::Bad;
+        }
+        value = value * 10 + (wide32(b) - 48);
+        end += 1;
+    }
+    if end == at {
+        return Entry::Bad;
+    }
+    // A 0 may only come first where it stands alone.
+    if end == at + 1 {
+        return Entry::Value(value, end);
+    }
+    if field[at] == b'0' {
+        return Entry::Bad;
+    }
+    Entry::Value(value, end)
+}
+
 // The number that a field writes.
 pub fn read_number(field: &[u8]) -> Number
     ensures { λ r. ⌜ r ≡ numberAs (numberOf (now (field .entry))) ⌝ }
 {
-    if field.len() == 0 {
+    let number = number_at(field, 0);
+    let Entry::Value(n, end) = number else {
+        return Number::Bad;
+    };
+    if end < field.len() {
         return Number::Bad;
     }
-    if 5 < field.len() {
-        return Number::Bad;
-    }
-    if field[0] == b'0' {
-        if field.len() == 1 {
-            return Number::Value(0);
-        }
-        return Number::Bad;
-    }
-    let mut value = 0u32;
-    let mut at = 0;
-    while at < field.len() {
-        let b = field[at];
-        if !is_digit(b) {
-            return Number::Bad;
-        }
-        value = value * 10 + (wide32(b) - 48);
-        at += 1;
-    }
-    Number::Value(value)
+    Number::Value(n)
 }
 
 pub enum Optional {
@@ -148,22 +219,22 @@ pub struct Listed {
     pub rising: bool,
 }
 
-enum Entry {
-    Value(u32, usize),
-    Bad,
-}
-
-// The entry of a list that starts at `at`: its number, and where it ends.
+// The entry of a list that starts at `at`: its number, up to a comma or the end of the field.
 fn read_entry(field: &[u8], at: usize) -> Entry
     requires { ⌜ at ≤ length (now field) ⌝ }
     ensures { λ r. ⌜ r ≡ entryAt (now (field .entry)) at ⌝ }
 {
-    let end = find(field, at, b',');
-    let number = read_number(&field[at..end]);
-    match number {
-        Number::Value(n) => Entry::Value(n, end),
-        Number::Bad => Entry::Bad,
+    let number = number_at(field, at);
+    let Entry::Value(n, end) = number else {
+        return Entry::Bad;
+    };
+    if end == field.len() {
+        return Entry::Value(n, end);
     }
+    if field[end] == b',' {
+        return Entry::Value(n, end);
+    }
+    Entry::Bad
 }
 
 // What is known of a list after one more entry. Where a list rises, its largest entry is its last.

@@ -1,31 +1,12 @@
 -- `text::read_entry` meets its contract. Assumes nothing.
-use Prim.Native.Nat.{_≤_}
-use mathlib.Core.Path.{sym, ap, _∙_}
+use mathlib.Core.Path.{sym, _∙_}
 use borrow.Author.Needs.{needs}
-use lib.ListN.{length}
-use Rattle.text.specs.Inner.{entryAs}
-use Rattle.text.proofs.Scan.{next-bounds}
-use Rattle.text.proofs.Lists.{entry-is}
+use Rattle.text.proofs.Lists.{entry-bad, entry-last, entry-inside, entry-parted, entry-stray}
 use Rattle.text.proofs.read_entry.Statement.{statement}
 use Rattle.text.proofs.read_entry.Tie as tie
 
-find-requires : tie.Need-find-requires
-find-requires c κs = search needs
-
-bounds : (c : tie.After-find) → (c .before .before .args .at ≤ c .find .result) × (c .find .result ≤ length (c .before .before .args .field .now))
-bounds c = rw (c .find .ensures) (next-bounds _ _ _ (c .before .before .pre))
-
-sub-read-number : tie.Need-sub-read-number
-sub-read-number c = bounds c .0
-
-part-read-number-start : tie.Need-part-read-number-start
-part-read-number-start c = bounds c .0
-
-part-read-number-end : tie.Need-part-read-number-end
-part-read-number-end c = bounds c .1
-
-read-number-requires : tie.Need-read-number-requires
-read-number-requires c κs = search needs
+number-at-requires : tie.Need-number-at-requires
+number-at-requires c κs = search needs
 
 enum-known-number : tie.Need-enum-known-number
 enum-known-number c = search needs
@@ -34,14 +15,37 @@ enum-told : tie.Need-enum-told
 enum-told c = search needs
 
 returns : tie.Need-returns
-returns c =
-    let called = c .before .before .before in
-    ap (λ r. entryAs r (called .before .before .find .result)) (sym (c .before .number .given .1)) ∙ entry-is _ _ _ _ (called .before .before .find .ensures) (called .read-number .ensures)
+returns c = entry-bad _ _ (c .before .before .before .before .pre) (sym (c .before .before .number-at .ensures) ∙ c .enum-told .given .1)
 
 returns-2 : tie.Need-returns-2
 returns-2 c =
-    let called = c .before .before in
-    ap (λ r. entryAs r (called .before .before .find .result)) (sym (c .enum-told .given .1)) ∙ entry-is _ _ _ _ (called .before .before .find .ensures) (called .read-number .ensures)
+    let number = c .before .before in
+    entry-last _ _ (number .before .before .before .before .pre) _ _ (sym (number .before .before .number-at .ensures) ∙ number .number .given .1) (c .if1 .taken)
+
+shared-slice-read-if2 : tie.Need-shared-slice-read-if2
+shared-slice-read-if2 c =
+    let number = c .before .before .before in
+    entry-inside _ _ (number .before .before .before .before .pre) _ _ (sym (number .before .before .number-at .ensures) ∙ number .number .given .1) (c .before .if1 .left)
+
+returns-3 : tie.Need-returns-3
+returns-3 c =
+    let number = c .before .before .before .before in
+    entry-parted _ _ (number .before .before .before .before .pre) _ _ (sym (number .before .before .number-at .ensures) ∙ number .number .given .1) (c .before .before .if1 .left) (c .if2 .taken)
+
+returns-4 : tie.Need-returns-4
+returns-4 c =
+    let number = c .before .before .before .before in
+    entry-stray _ _ (number .before .before .before .before .pre) _ _ (sym (number .before .before .number-at .ensures) ∙ number .number .given .1) (c .before .before .if1 .left) (c .if2 .left)
 
 pub read-entry-spec : {M : Type 1} → statement M
-read-entry-spec = tie.close (tie.spec find-requires sub-read-number part-read-number-start part-read-number-end read-number-requires enum-known-number enum-told returns returns-2)
+read-entry-spec =
+    tie.close
+    (tie.spec
+    number-at-requires
+    enum-known-number
+    enum-told
+    returns
+    returns-2
+    shared-slice-read-if2
+    returns-3
+    returns-4)

@@ -20,8 +20,8 @@ abbrev μ-loop : tie.MeasureT-loop
 loop-holds : tie.Need-loop-holds Inv-loop μ-loop
 loop-holds c = fielding-none _
 
-find-requires : tie.Need-find-requires Inv-loop μ-loop
-find-requires c κs = search needs
+field-end-requires : tie.Need-field-end-requires Inv-loop μ-loop
+field-end-requires c κs = search needs
 
 mul-ends : tie.Need-mul-ends Inv-loop μ-loop
 mul-ends c = omega arith
@@ -33,12 +33,12 @@ array-write-ends c = omega arith
 full : (c : tie.Joined1 Inv-loop μ-loop) → 7 ≤ c .before .before .loop .count → length (c .before .before .loop .ends) ≤ c .before .before .loop .count
 full c h = omega (arith, c .before .before .loop .inv .sized)
 
-stored : (c : tie.Joined1 Inv-loop μ-loop) → c .if1 .ends ≡ set (c .before .before .loop .ends) (c .before .before .loop .count) (c .before .find .result)
+stored : (c : tie.Joined1 Inv-loop μ-loop) → c .if1 .ends ≡ set (c .before .before .loop .ends) (c .before .before .loop .count) (c .before .field-end .result)
 stored c = ⊎-elim (λ w. w .1) (λ w. w .1 ∙ sym (set-out _ _ _ (full c (w .0 .left)))) (c .if1 .came)
 
 bounds : (c : tie.Joined1 Inv-loop μ-loop)
-    → (c .before .before .loop .at ≤ c .before .find .result) × (c .before .find .result ≤ length (c .before .before .before .before .args .line .now))
-bounds c = end-bounds _ _ _ _ (c .before .before .loop .inv) _ (c .before .find .ensures) _ (stored c)
+    → (c .before .before .loop .at ≤ c .before .field-end .result) × (c .before .field-end .result ≤ length (c .before .before .before .before .args .line .now))
+bounds c = end-bounds _ _ _ _ (c .before .before .loop .inv) _ (c .before .field-end .ensures) _ (stored c)
 
 add-count : tie.Need-add-count Inv-loop μ-loop
 add-count c = omega arith
@@ -46,7 +46,7 @@ add-count c = omega arith
 returns : tie.Need-returns Inv-loop μ-loop
 returns c =
     let at-loop = c .before .before .before in
-    fielded _ _ _ _ (at-loop .loop .inv) _ (c .before .before .find .ensures) _ (stored (c .before)) (c .if2 .taken)
+    fielded _ _ _ _ (at-loop .loop .inv) _ (c .before .before .field-end .ensures) _ (stored (c .before)) (c .if2 .taken)
 
 add-at : tie.Need-add-at Inv-loop μ-loop
 add-at c = omega (arith, bounds (c .before))
@@ -57,8 +57,8 @@ loop-less c = omega (arith, bounds (c .before))
 loop-again : tie.Need-loop-again Inv-loop μ-loop
 loop-again c =
     let at-loop = c .before .before .before in
-    fielding-more _ _ _ _ (at-loop .loop .inv) _ (c .before .before .find .ensures) _ (stored (c .before)) (c .if2 .left)
+    fielding-more _ _ _ _ (at-loop .loop .inv) _ (c .before .before .field-end .ensures) _ (stored (c .before)) (c .if2 .left)
 
 pub read-fields-spec : {M : Type 1} → statement M
 read-fields-spec =
-    tie.close (tie.spec Inv-loop μ-loop loop-holds find-requires mul-ends array-write-ends add-count returns add-at loop-less loop-again)
+    tie.close (tie.spec Inv-loop μ-loop loop-holds field-end-requires mul-ends array-write-ends add-count returns add-at loop-less loop-again)

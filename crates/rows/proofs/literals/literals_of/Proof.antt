@@ -7,7 +7,7 @@ use lib.ListN.{length, getD}
 use Rattle.atomset.specs.AtomSet.{has}
 use Rattle.atomset.proofs.Digits.{has-zero}
 use Rattle.rows.specs.Shapes.{shapeIn}
-use Rattle.rows.specs.Literals.{isAtom, isNegated, isDoubled, isFalsum, isVerum, isOther, someShape, Adds, Collects}
+use Rattle.rows.specs.Literals.{isAtom, isNegated, isFalsum, isVerum, isOther, someShape, Adds, Collects}
 use Rattle.rows.specs.declared.shapes.Shape.{Shape}
 use Rattle.rows.specs.declared.literals.Literals.{Literals}
 use Rattle.rows.proofs.Collected.{Passed, pass-starts, pass-goes-on, pass-ends}
@@ -26,16 +26,14 @@ shaped test formulas x = test (shapeIn formulas x)
 record Collecting (formulas side : List ℕ) (found : Literals) (i : ℕ) : Type 0 where
   atoms : (k : ℕ) → Passed (shaped (isAtom k) formulas) side (has (found .atoms) k) i
   negated : (k : ℕ) → Passed (shaped (isNegated k) formulas) side (has (found .negated) k) i
-  doubled : (k : ℕ) → Passed (shaped (isDoubled k) formulas) side (has (found .doubled) k) i
   falsum : Passed (shaped isFalsum formulas) side (found .falsum) i
   verum : Passed (shaped isVerum formulas) side (found .verum) i
   other : Passed (shaped isOther formulas) side (found .other) i
 
-starts : (formulas side : List ℕ) → Collecting formulas side (record { atoms = 0; negated = 0; doubled = 0; falsum = false; verum = false; other = false }) 0
+starts : (formulas side : List ℕ) → Collecting formulas side (record { atoms = 0; negated = 0; falsum = false; verum = false; other = false }) 0
 starts formulas side = record {
   atoms = λ k. none (isAtom k) k;
   negated = λ k. none (isNegated k) k;
-  doubled = λ k. none (isDoubled k) k;
   falsum = pass-starts (shaped isFalsum formulas) side;
   verum = pass-starts (shaped isVerum formulas) side;
   other = pass-starts (shaped isOther formulas) side;
@@ -49,7 +47,6 @@ module _ {formulas side : List ℕ} {found : Literals} {i : ℕ} where
   goes-on {more} {s} h p e a = record {
     atoms = λ k. step (isAtom k) _ _ (p .atoms k) (a .atoms k);
     negated = λ k. step (isNegated k) _ _ (p .negated k) (a .negated k);
-    doubled = λ k. step (isDoubled k) _ _ (p .doubled k) (a .doubled k);
     falsum = step isFalsum _ _ (p .falsum) (a .falsum);
     verum = step isVerum _ _ (p .verum) (a .verum);
     other = step isOther _ _ (p .other) (a .other);
@@ -63,7 +60,6 @@ module _ {formulas side : List ℕ} {found : Literals} {i : ℕ} where
   ends h p = record {
     atoms = λ k. pass-ends (shaped (isAtom k) formulas) side _ i h (p .atoms k);
     negated = λ k. pass-ends (shaped (isNegated k) formulas) side _ i h (p .negated k);
-    doubled = λ k. pass-ends (shaped (isDoubled k) formulas) side _ i h (p .doubled k);
     falsum = pass-ends (shaped isFalsum formulas) side _ i h (p .falsum);
     verum = pass-ends (shaped isVerum formulas) side _ i h (p .verum);
     other = pass-ends (shaped isOther formulas) side _ i h (p .other);

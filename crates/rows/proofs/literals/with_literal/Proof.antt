@@ -24,7 +24,7 @@ enum-told : tie.Need-enum-told
 enum-told c = search needs
 
 returns : tie.Need-returns
-returns c = adds (c .enum-told .given .1) (record { atoms = λ i. kept _; negated = λ i. kept _; doubled = λ i. kept _; falsum = made (c .before .before .args .found .falsum); verum = kept _; other = kept _ })
+returns c = adds (c .enum-told .given .1) (record { atoms = λ i. kept _; negated = λ i. kept _; falsum = made (c .before .before .args .found .falsum); verum = kept _; other = kept _ })
 
 enum-known-s : tie.Need-enum-known-s
 enum-known-s c = search needs
@@ -33,13 +33,13 @@ insert-requires : tie.Need-insert-requires
 insert-requires c κs = search needs
 
 returns-2 : tie.Need-returns-2
-returns-2 c = adds (c .before .before .s .given .1) (record { atoms = c .insert .ensures; negated = λ i. kept _; doubled = λ i. kept _; falsum = kept _; verum = kept _; other = kept _ })
+returns-2 c = adds (c .before .before .s .given .1) (record { atoms = c .insert .ensures; negated = λ i. kept _; falsum = kept _; verum = kept _; other = kept _ })
 
 enum-told-2 : tie.Need-enum-told-2
 enum-told-2 c = search needs
 
 returns-3 : tie.Need-returns-3
-returns-3 c = adds (c .enum-told2 .given .1) (record { atoms = λ i. kept _; negated = λ i. kept _; doubled = λ i. kept _; falsum = kept _; verum = made (c .before .before .args .found .verum); other = kept _ })
+returns-3 c = adds (c .enum-told2 .given .1) (record { atoms = λ i. kept _; negated = λ i. kept _; falsum = kept _; verum = made (c .before .before .args .found .verum); other = kept _ })
 
 enum-known-s-2 : tie.Need-enum-known-s-2
 enum-known-s-2 c = search needs
@@ -48,34 +48,31 @@ insert-requires-2 : tie.Need-insert-requires-2
 insert-requires-2 c κs = search needs
 
 returns-4 : tie.Need-returns-4
-returns-4 c = adds (c .before .before .s2 .given .1) (record { atoms = λ i. kept _; negated = c .insert2 .ensures; doubled = λ i. kept _; falsum = kept _; verum = kept _; other = kept _ })
-
-enum-known-s-3 : tie.Need-enum-known-s-3
-enum-known-s-3 c = search needs
-
-insert-requires-3 : tie.Need-insert-requires-3
-insert-requires-3 c κs = search needs
-
-returns-5 : tie.Need-returns-5
-returns-5 c = adds (c .before .before .s3 .given .1) (record { atoms = λ i. kept _; negated = λ i. kept _; doubled = c .insert3 .ensures; falsum = kept _; verum = kept _; other = made (c .before .before .before .before .args .found .other) })
+returns-4 c = adds (c .before .before .s2 .given .1) (record { atoms = λ i. kept _; negated = c .insert2 .ensures; falsum = kept _; verum = kept _; other = kept _ })
 
 enum-told-3 : tie.Need-enum-told-3
 enum-told-3 c = search needs
 
-returns-6 : tie.Need-returns-6
-returns-6 c = adds (c .enum-told3 .given .1) (record { atoms = λ i. kept _; negated = λ i. kept _; doubled = λ i. kept _; falsum = kept _; verum = kept _; other = made (c .before .before .args .found .other) })
+returns-5 : tie.Need-returns-5
+returns-5 c = adds (c .enum-told3 .given .1) (record { atoms = λ i. kept _; negated = λ i. kept _; falsum = kept _; verum = kept _; other = made (c .before .before .args .found .other) })
 
 enum-told-4 : tie.Need-enum-told-4
 enum-told-4 c = search needs
 
-returns-7 : tie.Need-returns-7
-returns-7 c = adds (c .enum-told4 .given .1) (record { atoms = λ i. kept _; negated = λ i. kept _; doubled = λ i. kept _; falsum = kept _; verum = kept _; other = made (c .before .before .args .found .other) })
+returns-6 : tie.Need-returns-6
+returns-6 c = adds (c .enum-told4 .given .1) (record { atoms = λ i. kept _; negated = λ i. kept _; falsum = kept _; verum = kept _; other = made (c .before .before .args .found .other) })
 
 enum-told-5 : tie.Need-enum-told-5
 enum-told-5 c = search needs
 
+returns-7 : tie.Need-returns-7
+returns-7 c = adds (c .enum-told5 .given .1) (record { atoms = λ i. kept _; negated = λ i. kept _; falsum = kept _; verum = kept _; other = made (c .before .before .args .found .other) })
+
+enum-told-6 : tie.Need-enum-told-6
+enum-told-6 c = search needs
+
 returns-8 : tie.Need-returns-8
-returns-8 c = adds (c .enum-told5 .given .1) (record { atoms = λ i. kept _; negated = λ i. kept _; doubled = λ i. kept _; falsum = kept _; verum = kept _; other = made (c .before .before .args .found .other) })
+returns-8 c = adds (c .enum-told6 .given .1) (record { atoms = λ i. kept _; negated = λ i. kept _; falsum = kept _; verum = kept _; other = made (c .before .before .args .found .other) })
 
 pub with-literal-spec : {M : Type 1} → statement M
 with-literal-spec =
@@ -91,12 +88,11 @@ with-literal-spec =
     enum-known-s-2
     insert-requires-2
     returns-4
-    enum-known-s-3
-    insert-requires-3
-    returns-5
     enum-told-3
-    returns-6
+    returns-5
     enum-told-4
-    returns-7
+    returns-6
     enum-told-5
+    returns-7
+    enum-told-6
     returns-8)

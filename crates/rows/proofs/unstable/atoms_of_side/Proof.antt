@@ -14,7 +14,7 @@ use Rattle.rows.proofs.unstable.atoms_of_side.Tie as tie
 use Rattle.rows.proofs.unstable.atoms_of_side.Reads as reads
 use Rattle.rows.proofs.unstable.atoms_of_side.Lts as lts
 use Rattle.atomset.proofs.union.Reads as union-reads
-use Rattle.rows.proofs.unstable.atoms_at.Reads as atoms-at-reads
+use Rattle.tables.proofs.index.word.Reads as word-reads
 use Rattle.tables.proofs.records.wide.Reads as wide-reads
 
 -- p is an atom of formula x
@@ -39,8 +39,8 @@ shared-slice-read-wide c = search needs
 wide-requires : tie.Need-wide-requires Inv-loop μ-loop
 wide-requires c κs = search needs
 
-atoms-at-requires : tie.Need-atoms-at-requires Inv-loop μ-loop
-atoms-at-requires c κs = search needs
+word-requires : tie.Need-word-requires Inv-loop μ-loop
+word-requires c κs = search needs
 
 union-requires : tie.Need-union-requires Inv-loop μ-loop
 union-requires c κs = search needs
@@ -52,7 +52,7 @@ loop-less : tie.Need-loop-less Inv-loop μ-loop
 loop-less c = search needs
 
 loop-again : tie.Need-loop-again Inv-loop μ-loop
-loop-again c = λ p. pass-goes-on (occurs (c .before .before .before .before .before .before .before .before .args .atoms .now) p) (c .before .before .before .before .before .before .before .before .args .side .now) _ _ (c .before .before .before .before .before .loop .i) (search needs) (c .before .before .before .before .before .loop .inv p) (c .union .ensures p ∙ ap (λ (w : ℕ). has (c .before .before .before .before .before .loop .set) p || has w p) (c .before .atoms-at .ensures ∙ ap (λ (x : ℕ). getD (c .before .before .before .before .before .before .before .before .args .atoms .now) x 0) (c .before .before .wide .ensures)))
+loop-again c = λ p. pass-goes-on (occurs (c .before .before .before .before .before .before .before .before .args .atoms .now) p) (c .before .before .before .before .before .before .before .before .args .side .now) _ _ (c .before .before .before .before .before .loop .i) (search needs) (c .before .before .before .before .before .loop .inv p) (c .union .ensures p ∙ ap (λ (w : ℕ). has (c .before .before .before .before .before .loop .set) p || has w p) (c .before .word .ensures ∙ ap (λ (x : ℕ). getD (c .before .before .before .before .before .before .before .before .args .atoms .now) x 0) (c .before .before .wide .ensures)))
 
 returns : tie.Need-returns Inv-loop μ-loop
 unfolding onSide
@@ -68,7 +68,7 @@ atoms-of-side-spec =
     mul-wide
     shared-slice-read-wide
     wide-requires
-    atoms-at-requires
+    word-requires
     union-requires
     add-i
     loop-less

@@ -1,58 +1,101 @@
--- `rows::unstable::fixes` meets its contract: the four tests are the parts of the law.
+-- `rows::unstable::fixes` meets its contract. The invariant of its loop: what is to show of the side and of l is what is left to show.
+use Prim.Native.Nat.{_-_}
 use native.Mathlib.Omega.{arith}
 use mathlib.Core.Bool.{false≢true}
-use mathlib.Core.Path.{sym, _∙_}
-use borrow.Author.Tests.{not-true, not-false}
-use Rattle.rows.proofs.NumberSides.{small}
-use Rattle.rows.proofs.UnstableSteps.{rising-of}
-use Rattle.rows.proofs.UnstableInstances.{part-iff, fixes-parts}
+use lib.ListN.{length}
+use Rattle.rows.proofs.UnstableFixes.{Passing, passing-starts, met-inside, passing-met, passing-missed, passing-fails, passing-short, passing-ends}
 use borrow.Author.Needs.{needs}
 use Rattle.rows.proofs.unstable.fixes.Statement.{statement}
 use Rattle.rows.proofs.unstable.fixes.Tie as tie
 use Rattle.rows.proofs.unstable.fixes.Reads as reads
 use Rattle.rows.proofs.unstable.fixes.Lts as lts
+use Rattle.atomset.proofs.is_empty.Reads as is-empty-reads
 use Rattle.atomset.proofs.is_subset.Reads as is-subset-reads
-use Rattle.rows.proofs.literals.literals_of.Reads as literals-of-reads
-use Rattle.rows.proofs.unstable.rest_fixes.Reads as rest-fixes-reads
-use Rattle.tables.proofs.sides.covered.Reads as covered-reads
+use Rattle.atomset.proofs.union.Reads as union-reads
+use Rattle.rows.proofs.unstable.fixed_by.Reads as fixed-by-reads
+use Rattle.rows.proofs.unstable.stands_at.Reads as stands-at-reads
 
-covered-requires : tie.Need-covered-requires
-covered-requires c κs = search needs
+abbrev Inv-loop : tie.InvT-loop
+Inv-loop formulas side l set others fixed₀ i₀ j₀ fixed i j = Passing formulas side l set others fixed i j
 
-returns : tie.Need-returns
-returns c = λ rs rl. (λ e. absurd (false≢true e), λ f. absurd (false≢true (sym (not-true _ (c .if1 .taken)) ∙ c .before .covered .ensures .exact rl rs ∙ part-iff (c .before .before .before .before .before .args .l .now) (c .before .before .before .before .before .args .side .now) (small (c .before .before .before .before .before .args .l .now) (λ i. omega (arith, c .before .before .shared-slice-known3 .given i))) .1 (f .part))))
+abbrev μ-loop : tie.MeasureT-loop
+μ-loop formulas side l set others fixed₀ i₀ j₀ fixed i j = length side - i
 
-literals-of-requires : tie.Need-literals-of-requires
-literals-of-requires c κs = search needs
+loop-holds : tie.Need-loop-holds Inv-loop μ-loop
+loop-holds c = passing-starts _ _ _ _ _
 
-is-subset-requires : tie.Need-is-subset-requires
+mul-x : tie.Need-mul-x Inv-loop μ-loop
+mul-x c = search needs
+
+shared-slice-read-x : tie.Need-shared-slice-read-x Inv-loop μ-loop
+shared-slice-read-x c = search needs
+
+fixed-by-requires : tie.Need-fixed-by-requires Inv-loop μ-loop
+fixed-by-requires c κs = search needs
+
+union-requires : tie.Need-union-requires Inv-loop μ-loop
+union-requires c κs = search needs
+
+add-i : tie.Need-add-i Inv-loop μ-loop
+add-i c = search needs
+
+stands-at-requires : tie.Need-stands-at-requires Inv-loop μ-loop
+stands-at-requires c κs = search needs
+
+add-j : tie.Need-add-j Inv-loop μ-loop
+add-j c = omega (arith, met-inside (c .before .before .before .before .before .before .loop .inv) (search needs) (c .before .stands-at .ensures) (c .if1 .taken))
+
+loop-less : tie.Need-loop-less Inv-loop μ-loop
+loop-less c = search needs
+
+loop-again : tie.Need-loop-again Inv-loop μ-loop
+loop-again c = passing-met (c .before .before .before .before .before .before .loop .inv) (search needs) (c .before .stands-at .ensures) (c .before .before .before .fixed-by .result) (c .before .before .union .result) (search needs) (c .before .before .before .fixed-by .ensures) (c .before .before .union .ensures) (c .if1 .taken)
+
+is-empty-requires : tie.Need-is-empty-requires Inv-loop μ-loop
+is-empty-requires c κs = search needs
+
+returns : tie.Need-returns Inv-loop μ-loop
+returns c = λ rs rl. (λ e. absurd (false≢true e), λ f. absurd (passing-fails (c .before .before .before .before .before .before .before .before .loop .inv) (search needs) (c .before .before .before .stands-at .ensures) (c .before .before .before .before .before .fixed-by .result) (c .before .before .before .before .union .result) (search needs) (c .before .before .before .before .before .fixed-by .ensures) (c .before .before .before .before .union .ensures) (c .before .before .if1 .left) (c .before .is-empty .ensures) (c .if2 .taken) rs rl f))
+
+loop-less-2 : tie.Need-loop-less-2 Inv-loop μ-loop
+loop-less-2 c = search needs
+
+loop-again-2 : tie.Need-loop-again-2 Inv-loop μ-loop
+loop-again-2 c = passing-missed (c .before .before .before .before .before .before .before .before .loop .inv) (search needs) (c .before .before .before .stands-at .ensures) (c .before .before .before .before .before .fixed-by .result) (c .before .before .before .before .union .result) (search needs) (c .before .before .before .before .before .fixed-by .ensures) (c .before .before .before .before .union .ensures) (c .before .before .if1 .left) (c .before .is-empty .ensures) (c .if2 .left)
+
+returns-2 : tie.Need-returns-2 Inv-loop μ-loop
+returns-2 c = λ rs rl. (λ e. absurd (false≢true e), λ f. absurd (passing-short (c .before .before .loop .inv) (search needs) (c .if3 .taken) rs rl f))
+
+union-requires-2 : tie.Need-union-requires-2 Inv-loop μ-loop
+union-requires-2 c κs = search needs
+
+is-subset-requires : tie.Need-is-subset-requires Inv-loop μ-loop
 is-subset-requires c κs = search needs
 
-returns-2 : tie.Need-returns-2
-returns-2 c = λ rs rl. (λ e. absurd (false≢true e), λ f. absurd (false≢true (sym (not-true _ (c .if2 .taken)) ∙ c .before .is-subset .ensures .1 (fixes-parts (rising-of (c .before .before .before .before .before .before .before .before .args .side .now) rs) (rising-of (c .before .before .before .before .before .before .before .before .args .l .now) rl) (c .before .before .literals-of .ensures) (c .before .before .before .before .before .before .before .before .fits .set .fits) (c .before .before .before .before .before .before .before .before .fits .others .fits) .0 f .1))))
-
-is-subset-requires-2 : tie.Need-is-subset-requires-2
-is-subset-requires-2 c κs = search needs
-
-returns-3 : tie.Need-returns-3
-returns-3 c = λ rs rl. (λ e. absurd (false≢true e), λ f. absurd (false≢true (sym (not-true _ (c .if3 .taken)) ∙ c .before .is-subset2 .ensures .1 (fixes-parts (rising-of (c .before .before .before .before .before .before .before .before .before .before .args .side .now) rs) (rising-of (c .before .before .before .before .before .before .before .before .before .before .args .l .now) rl) (c .before .before .before .before .literals-of .ensures) (c .before .before .before .before .before .before .before .before .before .before .fits .set .fits) (c .before .before .before .before .before .before .before .before .before .before .fits .others .fits) .0 f .2))))
-
-rest-fixes-requires : tie.Need-rest-fixes-requires
-rest-fixes-requires c κs = search needs
-
-returns-4 : tie.Need-returns-4
-returns-4 c = λ rs rl. (λ e. fixes-parts (rising-of (c .before .before .before .before .before .before .before .before .before .before .before .args .side .now) rs) (rising-of (c .before .before .before .before .before .before .before .before .before .before .before .args .l .now) rl) (c .before .before .before .before .before .literals-of .ensures) (c .before .before .before .before .before .before .before .before .before .before .before .fits .set .fits) (c .before .before .before .before .before .before .before .before .before .before .before .fits .others .fits) .1 (part-iff (c .before .before .before .before .before .before .before .before .before .before .before .args .l .now) (c .before .before .before .before .before .before .before .before .before .before .before .args .side .now) (small (c .before .before .before .before .before .before .before .before .before .before .before .args .l .now) (λ i. omega (arith, c .before .before .before .before .before .before .before .before .shared-slice-known3 .given i))) .0 (sym (c .before .before .before .before .before .before .before .covered .ensures .exact rl rs) ∙ not-false _ (c .before .before .before .before .before .before .if1 .left)), c .before .before .before .before .is-subset .ensures .0 (not-false _ (c .before .before .before .if2 .left)), c .before .before .is-subset2 .ensures .0 (not-false _ (c .before .if3 .left)), sym (c .rest-fixes .ensures) ∙ e), λ f. c .rest-fixes .ensures ∙ fixes-parts (rising-of (c .before .before .before .before .before .before .before .before .before .before .before .args .side .now) rs) (rising-of (c .before .before .before .before .before .before .before .before .before .before .before .args .l .now) rl) (c .before .before .before .before .before .literals-of .ensures) (c .before .before .before .before .before .before .before .before .before .before .before .fits .set .fits) (c .before .before .before .before .before .before .before .before .before .before .before .fits .others .fits) .0 f .3)
+returns-3 : tie.Need-returns-3 Inv-loop μ-loop
+returns-3 c = passing-ends (c .before .before .before .before .loop .inv) (search needs) (search needs) (c .before .union2 .result) (c .before .union2 .ensures) (c .is-subset .ensures)
 
 pub fixes-spec : {M : Type 1} → statement M
 fixes-spec =
     tie.close
     (tie.spec
-    covered-requires
+    Inv-loop
+    μ-loop
+    loop-holds
+    mul-x
+    shared-slice-read-x
+    fixed-by-requires
+    union-requires
+    add-i
+    stands-at-requires
+    add-j
+    loop-less
+    loop-again
+    is-empty-requires
     returns
-    literals-of-requires
-    is-subset-requires
+    loop-less-2
+    loop-again-2
     returns-2
-    is-subset-requires-2
-    returns-3
-    rest-fixes-requires
-    returns-4)
+    union-requires-2
+    is-subset-requires
+    returns-3)

@@ -1,4 +1,4 @@
--- `text::find` meets its contract. The loop's invariant: what is looked for from `from` is what is looked for from `at`.
+-- `text::find_near` meets its contract. The loop's invariant: what is looked for from `from` is what is looked for from `at`.
 -- Assumes nothing.
 use Prim.Native.Nat.{_-_}
 use mathlib.Core.Path.{_≡_, refl, sym, _∙_}
@@ -6,8 +6,8 @@ use native.Mathlib.Omega.{arith}
 use lib.ListN.{length}
 use Rattle.text.specs.Scan.{nextAt}
 use Rattle.text.proofs.Scan.{next-here, next-later, next-none}
-use Rattle.text.proofs.find.Statement.{statement}
-use Rattle.text.proofs.find.Tie as tie
+use Rattle.text.proofs.find_near.Statement.{statement}
+use Rattle.text.proofs.find_near.Tie as tie
 
 abbrev Inv-loop : tie.InvT-loop
 Inv-loop bytes from byte at₀ at = nextAt byte bytes from ≡ nextAt byte bytes at
@@ -36,5 +36,5 @@ loop-again c = c .before .before .before .loop .inv ∙ next-later _ _ _ (c .bef
 returns-2 : tie.Need-returns-2 Inv-loop μ-loop
 returns-2 c = sym (c .before .loop .inv ∙ next-none _ _ _ (c .loop-test .left))
 
-pub find-spec : {M : Type 1} → statement M
-find-spec = tie.close (tie.spec Inv-loop μ-loop loop-holds shared-slice-read-if1 returns add-at loop-less loop-again returns-2)
+pub find-near-spec : {M : Type 1} → statement M
+find-near-spec = tie.close (tie.spec Inv-loop μ-loop loop-holds shared-slice-read-if1 returns add-at loop-less loop-again returns-2)

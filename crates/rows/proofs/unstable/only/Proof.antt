@@ -1,0 +1,29 @@
+-- `rows::unstable::only` meets its contract: a member of the set has room in a word.
+use mathlib.Core.Bool.{Bool, _&&_, and-false}
+use mathlib.Core.Path.{sym, ap, _∙_}
+use borrow.Author.Tests.{lt-ltb}
+use lib.Dec.{eqb}
+use Rattle.atomset.proofs.Digits.{has-zero}
+use Rattle.atomset.proofs.Membership.{member-lt}
+use borrow.Author.Needs.{needs}
+use Rattle.rows.proofs.unstable.only.Statement.{statement}
+use Rattle.rows.proofs.unstable.only.Tie as tie
+use Rattle.rows.proofs.unstable.only.Reads as reads
+use Rattle.rows.proofs.unstable.only.Lts as lts
+use Rattle.atomset.proofs.contains.Reads as contains-reads
+use Rattle.atomset.proofs.single.Reads as single-reads
+
+contains-requires : tie.Need-contains-requires
+contains-requires c κs = search needs
+
+single-requires : tie.Need-single-requires
+single-requires c κs = search needs
+
+returns : tie.Need-returns
+returns c = λ i. let held = sym (c .before .before .contains .ensures) ∙ c .before .if1 .taken in c .single .ensures i ∙ ap (λ (t : Bool). eqb i (c .before .before .before .args .p) && t) (lt-ltb _ 64 (member-lt 64 _ _ (search needs) held) ∙ sym held)
+
+returns-2 : tie.Need-returns-2
+returns-2 c = λ i. has-zero i ∙ sym (ap (λ (t : Bool). eqb i (c .before .before .args .p) && t) (sym (c .before .contains .ensures) ∙ c .if1 .left) ∙ and-false (eqb i (c .before .before .args .p)))
+
+pub only-spec : {M : Type 1} → statement M
+only-spec = tie.close (tie.spec contains-requires single-requires returns returns-2)
