@@ -4,7 +4,7 @@ use Prim.Native.Nat.{ℕ}
 use mathlib.Core.List.{List, [], _∷_}
 use mathlib.Core.Logic.{_↔_}
 use native.Mathlib.Decide.{ℕ-discrete}
-use Rattle.equilibrium.specs.Formula.{Formula, atom, neg, disj, imp, atomsIn}
+use Rattle.equilibrium.specs.Formula.{neg, disj, imp, atomsIn}
 use Rattle.equilibrium.specs.Meaning.{_∈_, _⊆_, _≈_, Equilibrium, Entails, Fails}
 use Rattle.equilibrium.specs.Examples.{Sheet, Listed, sheets, a, b}
 use Rattle.equilibrium.proofs.Sets.{from-yes, from-no, dec-not, dec-iff, dec-all, dec-some, dec-same, dec-part, ≈-sym, ≈-trans, search-parts}

@@ -1,12 +1,12 @@
 -- Equilibrium models and entailment: they see T as a set, hold only atoms that occur, and are decided.
 use Prim.Native.Nat.{ℕ}
-use mathlib.Core.List.{List, [], _∷_}
+use mathlib.Core.List.{List}
 use mathlib.Core.Logic.{_⊎_, inl, inr, ⊎-elim, _↔_}
 use native.Mathlib.Decide.{ℕ-discrete}
-use Rattle.equilibrium.specs.Formula.{Formula, atomsOf, atomsIn}
-use Rattle.equilibrium.specs.Meaning.{_∈_, _⊆_, _≈_, AllHold, NoneHolds, SomeHolds, Equilibrium, Entails, EntailsOver, Fails}
+use Rattle.equilibrium.specs.Formula.{Formula, atomsIn}
+use Rattle.equilibrium.specs.Meaning.{_∈_, _⊆_, _≈_, AllHold, SomeHolds, Equilibrium, Entails, EntailsOver, Fails}
 use Rattle.equilibrium.proofs.Sets.{dec-not, dec-and, dec-in, dec-part, dec-map, those, in-those, search-parts}
-use Rattle.equilibrium.proofs.Satisfaction.{all-hold?, some-holds?, none-holds, same-agree, all-agree, some-agree, Agree}
+use Rattle.equilibrium.proofs.Satisfaction.{all-hold?, some-holds?, none-holds, same-agree, all-agree, some-agree}
 
 -- a pair (H,T) with H properly inside T that satisfies L: what keeps T from being in equilibrium
 abbrev pub Smaller : List Formula → List ℕ → Type 0

@@ -1,7 +1,7 @@
 -- Satisfaction: it persists from H to T, is decided, and depends on H and T only at the atoms that occur.
 use Prim.Native.Nat.{ℕ}
 use mathlib.Core.Path.{_≡_, refl}
-use mathlib.Core.List.{List, [], _∷_, _++_, List·Memᴰ·head, List·Memᴰ·tail, Memᴰ·append-left, Memᴰ·append-right, List·Memᴰ·not-nil, List·Memᴰ·cases-cons, List·Memᴰ·append-cases}
+use mathlib.Core.List.{List, [], _∷_, List·Memᴰ·head, Memᴰ·append-left, Memᴰ·append-right, List·Memᴰ·not-nil, List·Memᴰ·cases-cons}
 use mathlib.Core.Logic.{_⊎_, inl, inr, ⊎-elim, _↔_}
 use native.Mathlib.Decide.{ℕ-discrete}
 use Rattle.equilibrium.specs.Formula.{Formula, falsum, atom, neg, conj, disj, imp, atomsOf, atomsIn}
@@ -16,9 +16,6 @@ persists s (neg A) h = h
 persists s (conj A B) h = (persists s A (h .0), persists s B (h .1))
 persists s (disj A B) h = ⊎-elim (λ a. inl (persists s A a)) (λ b. inr (persists s B b)) h
 persists s (imp A B) h = (h .0, h .0)
-
-pub all-persist : {H T : List ℕ} {L : List Formula} → H ⊆ T → AllHold H T L → AllHold T T L
-all-persist s h A m = persists s A (h A m)
 
 unfoldable pub holds? : (H T : List ℕ) (A : Formula) → Dec (Holds H T A)
 unfolding dec-in dec-not dec-and dec-or dec-implies

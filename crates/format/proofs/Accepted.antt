@@ -8,8 +8,7 @@ use mathlib.Core.List.{List, [], _∷_, _++_}
 use mathlib.Core.Option.{Option, none, some}
 use lib.Dec.{ltb}
 use lib.ListN.{length}
-use Rattle.equilibrium.specs.Formula.{Formula}
-use Rattle.equilibrium.specs.Meaning.{_≈_, Entails, Fails}
+use Rattle.equilibrium.specs.Meaning.{_≈_, Fails}
 use Rattle.equilibrium.proofs.Sets.{≈-refl}
 use Rattle.equilibrium.proofs.Models.{entails-not-fails}
 use Rattle.elk.specs.Sequent.{Kind, elk, refutation}
@@ -17,10 +16,10 @@ use Rattle.elk.specs.Rules.{entry, kindOf}
 use Rattle.elk.specs.Derivation.{Derivation, EndsIn}
 use Rattle.elk.proofs.Soundness.{ends-in-sound}
 use Rattle.format.specs.Text.{Bytes, linesOf, sameList}
-use Rattle.format.specs.File.{Node, Row, Claim, File, noFile, sequentOf, decoded}
+use Rattle.format.specs.File.{Node, Row, Claim, File, sequentOf, decoded}
 use Rattle.format.specs.Tables.{Lent, tooShort, mostBytes}
 use Rattle.format.specs.Tests.{sameKind, lastIs}
-use Rattle.format.specs.Judged.{Outcome, next, refused, top, beginning, Answer, accepted, turnedDown, orNoClaim, finish, judged, nodesIn, ClaimFails}
+use Rattle.format.specs.Judged.{Outcome, next, refused, top, beginning, accepted, turnedDown, orNoClaim, finish, judged, ClaimFails}
 use Rattle.format.proofs.Booleans.{and-true, same-list}
 use Rattle.format.proofs.Beginnings.{Good, run-good, good-start, derived, derived-snoc}
 

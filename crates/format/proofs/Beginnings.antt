@@ -5,27 +5,26 @@ use native.Mathlib.Decide.{decLt}
 use native.Mathlib.Omega.{arith}
 use mathlib.Core.Path.{_≡_, refl, sym, ap, ap₂, subst, _∙_}
 use mathlib.Core.Bool.{Bool, true, false, not, cond, _||_, true≢false}
-use mathlib.Core.List.{List, [], _∷_, _++_, map, map-append, append-nil, append-assoc, reverse, reverseAux, reverse-append, List·Memᴰ, List·Memᴰ·head, List·Memᴰ·tail, List·Memᴰ·not-nil, List·Memᴰ·cases-cons, List·Memᴰ·append-cases, List·Memᴰ·eq-of-singleton, Memᴰ·map, Memᴰ·cast}
+use mathlib.Core.List.{List, [], _∷_, _++_, map, map-append, append-nil, append-assoc, reverse, reverseAux, reverse-append, List·Memᴰ·head, List·Memᴰ·tail, List·Memᴰ·not-nil, List·Memᴰ·cases-cons, List·Memᴰ·append-cases, List·Memᴰ·eq-of-singleton, Memᴰ·map, Memᴰ·cast}
 use mathlib.Core.Logic.{_⊎_, inl, inr, ⊎-elim}
 use mathlib.Core.Option.{Option, none, some}
-use lib.Dec.{eqb, ltb, leb}
+use lib.Dec.{leb}
 use lib.ListN.{length, getD, take, length-append, List·getD-append}
 use lib.Seq.{take-append-le, take-at, getD-at}
 use borrow.Author.Tests.{leb-true, ltb-true, leb-false}
 use Rattle.equilibrium.specs.Meaning.{_∈_, _⊆_}
 use Rattle.elk.specs.Sequent.{Sequent}
-use Rattle.elk.specs.Rules.{Rule}
 use Rattle.elk.specs.Instance.{Instance}
 use Rattle.elk.specs.Derivation.{Derivation, start, row}
 use Rattle.elk.proofs.Decision.{instance?}
-use Rattle.format.specs.Text.{Bytes, _<$>_, any, sameList}
+use Rattle.format.specs.Text.{Bytes, _<$>_, any}
 use Rattle.format.specs.File.{Node, Row, Claim, Body, Stage, in-atoms, in-formulas, in-rows, claimed, File, noFile, decodedAt, sequentOf}
 use Rattle.format.specs.Line.{Line, atomLine, formulaLine, rowLine, claimLine, lineOf}
 use Rattle.format.specs.Tables.{nodeRecord, leftPool, rightPool, mostAtoms, mostFormulas, mostRows}
-use Rattle.format.specs.Tests.{Test, first, rank, mayFollow, outOfOrder, notEarlier, unknownFormula, refersAhead, sameNode, badSide, passed, listed, premisesOf, wrongPremises, wrongStep, isNo, lastIs, atomTests, formulaTests, rowTests, claimTests}
-use Rattle.format.specs.Judged.{Place, Outcome, next, refused, settled, orBadLine, stepRead, step, after, below, run, top, withAtom, withNode, addRow, withRow, withClaim, nameStart, addNode, nodesIn}
-use Rattle.format.specs.Held.{Held, HeldRow, beforeNode, nodeAt}
-use Rattle.format.proofs.Booleans.{or-false, or-false₄, and-true, not-false, any-false, same-list, list-same}
+use Rattle.format.specs.Tests.{Test, first, rank, mayFollow, outOfOrder, notEarlier, unknownFormula, refersAhead, sameNode, badSide, passed, listed, premisesOf, wrongStep, isNo, lastIs, atomTests, formulaTests, rowTests, claimTests}
+use Rattle.format.specs.Judged.{Place, Outcome, next, refused, settled, orBadLine, stepRead, step, after, below, run, withAtom, withNode, addRow, withRow, withClaim, nameStart, addNode, nodesIn}
+use Rattle.format.specs.Held.{Held, HeldRow}
+use Rattle.format.proofs.Booleans.{or-false, or-false₄, and-true, not-false, any-false, list-same}
 
 -- the sequents of the rows, the last one first
 abbrev pub derived : List Node → List Row → List Sequent

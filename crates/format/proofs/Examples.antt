@@ -1,5 +1,4 @@
 -- Paper 01's examples of texts ("A whole file"), each with its answer, by one computed proof over the table.
-use Prim.Native.Nat.{ℕ}
 use Prim.Native.String.{String}
 use mathlib.Core.Path.{_≡_, refl}
 use mathlib.Core.List.{List, [], _∷_, map}

@@ -1,7 +1,7 @@
 -- One line, and the lines from one on: what each comes to, by what is written there.
 use Prim.Native.Nat.{ℕ, _+_, _≤_}
 use native.Mathlib.Omega.{arith}
-use mathlib.Core.Path.{_≡_, refl, sym, ap, ap₂, _∙_}
+use mathlib.Core.Path.{_≡_, refl, sym, ap, _∙_}
 use mathlib.Core.Bool.{Bool, true, false, cond}
 use mathlib.Core.List.{List, [], _∷_}
 use mathlib.Core.Option.{Option, none, some}
@@ -11,7 +11,7 @@ use Rattle.format.specs.Text.{Bytes, onto, partsAt, lineFeed, linesOf, a
 use Rattle.format.specs.File.{Node, Row, File, noFile}
 use Rattle.format.specs.Line.{Line, atomLine, formulaLine, rowLine, claimLine, lineOf}
 use Rattle.format.specs.Tests.{Test, first, atomTests, formulaTests, rowTests, claimTests}
-use Rattle.format.specs.Judged.{Place, Outcome, next, refused, settled, orBadLine, stepRead, step, after, below, run, top, beginning, withAtom, withNode, withRow, withClaim, nameStart, Answer, accepted, turnedDown, orNoClaim, finish}
+use Rattle.format.specs.Judged.{Place, Outcome, next, refused, settled, orBadLine, stepRead, step, after, below, run, top, beginning, withAtom, withNode, withRow, withClaim, nameStart, Answer, turnedDown, orNoClaim, finish}
 
 -- the first test that applies gives its number
 

@@ -1,7 +1,6 @@
 -- One line, as it is written (paper 01, "The text").
 use Prim.Native.Nat.{ℕ}
-use Prim.Native.String.{String}
-use mathlib.Core.Bool.{Bool, cond, _&&_}
+use mathlib.Core.Bool.{cond, _&&_}
 use mathlib.Core.List.{List, [], _∷_}
 use mathlib.Core.Option.{Option, none, some}
 use Rattle.elk.specs.Rules.{Rule, rules, wordOf}

@@ -4,24 +4,23 @@ use Prim.Native.Nat.{ℕ, zero, suc, _+_, _≤_, _<_, _-_}
 use native.Mathlib.Nat.{sub-zero}
 use native.Mathlib.Omega.{arith}
 use mathlib.Core.Path.{_≡_, refl, sym, ap, ap₂, subst, _∙_}
-use mathlib.Core.Bool.{Bool, true, false}
 use mathlib.Core.List.{List, [], _∷_, _++_, List·Memᴰ·not-nil}
-use mathlib.Core.Option.{Option, none, some}
+use mathlib.Core.Option.{Option}
 use lib.ListN.{length, getD, take, drop, replicate, length-take, length-drop, drop-of-length-le}
 use lib.Seq.{drop-cons}
-use Rattle.format.specs.Text.{Bytes, partsAt, lineFeed, linesOf}
+use Rattle.format.specs.Text.{Bytes, partsAt, lineFeed}
 use Rattle.format.specs.File.{Claim, Stage, in-atoms, in-formulas, in-rows, claimed, File, noFile}
 use Rattle.format.specs.Tests.{rank}
 use Rattle.format.specs.Tables.{padded}
-use Rattle.format.specs.Judged.{Place, Outcome, next, refused, step, below, top, beginning, Answer, accepted, turnedDown, orNoClaim}
+use Rattle.format.specs.Judged.{Place, Outcome, next, refused, step, below, top, beginning, accepted, turnedDown, orNoClaim}
 use Rattle.tables.proofs.Indexing.{index-none}
 use Rattle.text.specs.Scan.{nextAt}
 use Rattle.text.proofs.Scan.{next-bounds, next-part, last-part}
 use Rattle.format.proofs.Stepping.{runFrom, answerFrom, run-next, answer-next, answer-refused, answer-stub, run-end, answer-end, answer-whole, step-refused}
-use Rattle.format.proofs.Beginnings.{Good, step-good, good-start}
+use Rattle.format.proofs.Beginnings.{step-good, good-start}
 use Rattle.judge.specs.Running.{place, Running, Advances}
 use Rattle.judge.specs.Contract.{Holds, Accepts, Refuses, Zeros}
-use Rattle.lines.specs.State.{Counted, Contents, Full, Stored, Steps, claimLine}
+use Rattle.lines.specs.State.{Counted, Contents, Full, Steps, claimLine}
 use Rattle.lines.specs.Stepping.{LineStepped}
 use Rattle.lines.specs.declared.state.Counts.{Counts}
 use Rattle.lines.specs.declared.state.Stepped.{Stepped}

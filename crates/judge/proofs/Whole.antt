@@ -1,7 +1,6 @@
 -- The whole answer: by the lengths of the tables and the text, and then by the run over its lines.
 use Prim.Native.Nat.{ℕ, _*_, _≤_, _<_}
 use native.Mathlib.Nat.{sub-zero}
-use native.Mathlib.Omega.{arith}
 use mathlib.Core.Path.{_≡_, refl, sym, ap, ap₂, _∙_}
 use mathlib.Core.Bool.{Bool, true, false, cond, _||_}
 use mathlib.Core.List.{List, []}
@@ -10,10 +9,10 @@ use lib.Dec.{ltb}
 use lib.ListN.{length, replicate, length-replicate}
 use borrow.Author.Tests.{lt-ltb, le-ltb, ltb-false}
 use Rattle.format.specs.Text.{Bytes}
-use Rattle.format.specs.File.{File, noFile}
+use Rattle.format.specs.File.{noFile}
 use Rattle.format.specs.Tables.{Lent, tooShort, padded, Contents, encode, rowWidth, mostAtoms, mostFormulas, mostRows, mostEntries, mostBytes}
 use Rattle.format.specs.Judged
-use Rattle.format.specs.Judged.{Outcome, next, accepted, turnedDown, numberIn, lineIn, beginning, judged, heldBy, contents, ClaimFails}
+use Rattle.format.specs.Judged.{accepted, turnedDown, numberIn, lineIn, beginning, judged, heldBy, contents}
 use Rattle.format.proofs.Booleans.{or-false}
 use Rattle.lines.specs.State
 use Rattle.lines.specs.State.{Full}

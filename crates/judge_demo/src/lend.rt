@@ -97,7 +97,7 @@ fn show_parts(
 }
 
 // The tables have room to spare.
-pub fn show_in_tables(what: &[u8], text: &[u8], lengths: Lengths) {
+pub(crate) fn show_in_tables(what: &[u8], text: &[u8], lengths: Lengths) {
     let mut names = [0u16; 130];
     let mut formulas = [0u16; 3100];
     let mut rows = [0u16; 16400];

@@ -16,7 +16,7 @@ fn wide(n: u16) -> u64 {
 }
 
 // What was judged and how long it is, the number and the line.
-pub fn put_answer(what: &[u8], text: &[u8], answer: Answer) {
+pub(crate) fn put_answer(what: &[u8], text: &[u8], answer: Answer) {
     put(what);
     put(b", ");
     put_decimal(text.len() as u64);
@@ -51,7 +51,7 @@ fn put_numbers(numbers: &[u16]) {
 }
 
 // Name and length of a table, and its numbers up to the last that is not 0.
-pub fn put_table(name: &[u8], table: &[u16]) {
+pub(crate) fn put_table(name: &[u8], table: &[u16]) {
     put(name);
     put(b" ");
     put_decimal(table.len() as u64);

@@ -88,7 +88,7 @@ N\t2\tnotr\t4\t1\t0\t3,4\n\
 N\t3\tdef\t1\t-\t-\t1,3\n";
 
 // The whole file of paper 01, with these premises of its last row and this claim line.
-pub fn file_text(text: &mut [u8], premises: &[u8], claim: &[u8]) -> usize
+pub(crate) fn file_text(text: &mut [u8], premises: &[u8], claim: &[u8]) -> usize
     ensures { λ r. ⌜ Counts r (now (text .exit)) ⌝ }
 {
     let start = append(text, 0, &FILE_START);
@@ -99,7 +99,7 @@ pub fn file_text(text: &mut [u8], premises: &[u8], claim: &[u8]) -> usize
 }
 
 // So many atoms, and a derivation that has atom 63.
-pub fn atoms_text(text: &mut [u8], count: u64) -> usize
+pub(crate) fn atoms_text(text: &mut [u8], count: u64) -> usize
     ensures { λ r. ⌜ Counts r (now (text .exit)) ⌝ }
 {
     let atoms = append_each(text, 0, 0, count, b"A\t", b"\ta", b"\n");
@@ -130,7 +130,7 @@ fn formulas_text(text: &mut [u8]) -> usize
 }
 
 // These, and a derivation with so many of them on a side.
-pub fn side_text(text: &mut [u8], count: u64) -> usize
+pub(crate) fn side_text(text: &mut [u8], count: u64) -> usize
     ensures { λ r. ⌜ Counts r (now (text .exit)) ⌝ }
 {
     let formulas = formulas_text(text);
@@ -151,7 +151,7 @@ fn names_text(text: &mut [u8], last_name: &[u8]) -> usize
 }
 
 // These, 7 formulas and 2,048 rows.
-pub fn long_text(text: &mut [u8], last_name: &[u8]) -> usize
+pub(crate) fn long_text(text: &mut [u8], last_name: &[u8]) -> usize
     ensures { λ r. ⌜ Counts r (now (text .exit)) ⌝ }
 {
     let atoms = names_text(text, last_name);

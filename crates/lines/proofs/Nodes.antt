@@ -40,7 +40,7 @@ use Rattle.tables.specs.declared.records.NodeRecord.{NodeRecord}
 use Rattle.tables.specs.Index.{Indexed, entered}
 use Rattle.tables.proofs.Encoded.{nodes-length, atoms-encoded}
 use Rattle.tables.proofs.Indexing.{index-kept, index-more, length-entered, entered-before}
-use Rattle.rows.specs.Ground.{Formulas, AtomWords}
+use Rattle.rows.specs.Ground.{AtomWords}
 use Rattle.lines.specs.declared.state.Counts.{Counts}
 use Rattle.lines.specs.declared.state.Stepped.{Stepped}
 use Rattle.lines.specs.declared.forms.Written.{Written}

@@ -2,18 +2,18 @@
 -- the formulas that they are.
 use Prim.Native.Nat.{ℕ, _+_, _≤_, _<_}
 use native.Mathlib.Numerals.{add-one}
-use mathlib.Core.Bool.{Bool, true, false, not, _||_, _&&_, or-false, or-true, or-assoc, false≢true, true≢false, and-eq-true-iff}
-use mathlib.Core.List.{List, [], _∷_, Memᴰ·cast}
-use mathlib.Core.Logic.{_↔_, ⊎-elim, _≢_}
-use mathlib.Core.Path.{_≡_, refl, sym, ap, ap₂, subst, _∙_}
+use mathlib.Core.Bool.{Bool, true, false, not, _||_, or-false, or-assoc, false≢true, true≢false, and-eq-true-iff}
+use mathlib.Core.List.{List, Memᴰ·cast}
+use mathlib.Core.Logic.{_↔_, _≢_}
+use mathlib.Core.Path.{_≡_, refl, sym, ap, subst, _∙_}
 use borrow.Author.Tests.{eqb-true, eq-eqb, eqb-false, ne-eqb, lt-ltb, not-true}
 use lib.Dec.{eqb, ltb}
 use lib.ListN.{length, getD, drop, drop-of-length-le}
 use lib.Seq.{drop-cons}
-use Rattle.equilibrium.specs.Formula.{Formula, falsum, atom, neg, conj, disj, imp}
+use Rattle.equilibrium.specs.Formula.{Formula, atom, neg}
 use Rattle.equilibrium.specs.Meaning.{_∈_}
 use Rattle.elk.specs.Instance.{LeftLiteral, left-atom, left-negated, left-verum, RightLiteral, right-atom, right-negated, right-falsum}
-use Rattle.format.specs.Text.{any, all}
+use Rattle.format.specs.Text.{any}
 use Rattle.format.specs.File.{Body, decodedAt, decoded}
 use Rattle.format.specs.Tests.{unknownFormula}
 use Rattle.tables.proofs.Sets.{any-iff, all-iff}
@@ -21,9 +21,8 @@ use Rattle.rows.specs.Ground.{Formulas}
 use Rattle.rows.specs.Shapes.{shapeIn}
 use Rattle.rows.specs.Literals.{atomBut, atomsBut, at, isAtom, isNegated, isFalsum, isVerum, isOther, someShape}
 use Rattle.rows.specs.declared.shapes.Shape.{Shape}
-use Rattle.rows.specs.declared.shapes.Shape.the-variants.{Falsum, Atom, Verum, Negated, Doubled, Conjunction, Disjunction, Other}
 use Rattle.rows.proofs.Decoded.{in-decoded, decoded-in, side-known}
-use Rattle.rows.proofs.Shown.{Unnamed, Shows, shows-falsum, shows-atom, shows-verum, shows-negated, shows-doubled, shows-conjunction, shows-disjunction, shows-other, shape-shows}
+use Rattle.rows.proofs.Shown.{Shows, shows-falsum, shows-atom, shows-verum, shows-negated, shows-doubled, shows-conjunction, shows-disjunction, shows-other, shape-shows}
 
 -- one pass: `found` is whether some number before place i passes the test
 module _ (test : ℕ → Bool) (side : List ℕ) where

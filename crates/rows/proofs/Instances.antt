@@ -1,15 +1,15 @@
 -- A row at a rule whose entry is known, and whose premises passed number 10: what its instances are.
 use Prim.Native.Nat.{ℕ}
 use native.Mathlib.Omega.{arith}
-use mathlib.Core.Bool.{Bool, true, false, true≢false, false≢true}
+use mathlib.Core.Bool.{true, false, true≢false, false≢true}
 use mathlib.Core.List.{List, [], _∷_, map}
 use mathlib.Core.Option.{Option, none, some}
 use mathlib.Core.Path.{_≡_, refl, sym, ap, subst, _∙_}
 use mathlib.Core.Logic.{_↔_}
 use lib.ListN.{getD}
 use Rattle.equilibrium.specs.Formula.{Formula}
-use Rattle.elk.specs.Sequent.{Kind, elk, refutation, Sequent}
-use Rattle.elk.specs.Rules.{Entry, default, initial, unstable, entry, kindOf, hasPrincipal, premiseKinds}
+use Rattle.elk.specs.Sequent.{Kind, Sequent}
+use Rattle.elk.specs.Rules.{Entry, entry, hasPrincipal, premiseKinds}
 use Rattle.elk.specs.Instance.{InstanceOf}
 use Rattle.format.specs.Text.{_<$>_}
 use Rattle.format.specs.File.{Row, Body, decodedAt, sequentOf}

@@ -1,14 +1,13 @@
 -- The rules on literals judged by shapes: when a row is an instance of `def`, and of `xini`.
 use Prim.Native.Nat.{ℕ, _<_}
-use mathlib.Core.Bool.{Bool, true, false, false≢true}
+use mathlib.Core.Bool.{true, false}
 use mathlib.Core.List.{List, [], List·Memᴰ·head, Memᴰ·cast}
 use mathlib.Core.Option.{Option, none, some}
 use mathlib.Core.Logic.{_↔_}
 use mathlib.Core.Path.{_≡_, refl, sym, ap, subst, _∙_}
 use lib.ListN.{length}
-use Rattle.equilibrium.specs.Formula.{Formula, falsum, atom, neg, conj, disj, imp}
+use Rattle.equilibrium.specs.Formula.{Formula, falsum, atom, neg}
 use Rattle.equilibrium.specs.Meaning.{_∈_}
-use Rattle.elk.specs.Sequent.{Kind}
 use Rattle.elk.specs.Rules.{entry, kindOf, default, initial}
 use Rattle.elk.specs.Instance.{InstanceOf, LeftLiteral, left-atom, left-negated, left-verum, RightLiteral}
 use Rattle.elk.proofs.Entries.{DefaultTest, default-iff, InitialTest, initial-iff}
@@ -20,10 +19,9 @@ use Rattle.format.proofs.Formulas.{known-earlier}
 use Rattle.atomset.specs.AtomSet.{Member}
 use Rattle.tables.specs.Members.{member}
 use Rattle.tables.proofs.Sets.{member-iff}
-use Rattle.rows.specs.Numbers.{Decides}
 use Rattle.rows.specs.Judgement.{Judging, RowInstance}
 use Rattle.rows.specs.Shapes.{shapeIn}
-use Rattle.rows.specs.Literals.{atomsBut, isFalsum, isVerum, isOther, someShape, Collects}
+use Rattle.rows.specs.Literals.{atomsBut, Collects}
 use Rattle.rows.specs.declared.Draft.{Draft}
 use Rattle.rows.specs.declared.shapes.Shape.the-variants.{Negated}
 use Rattle.rows.specs.declared.literals.Literals.{Literals}

@@ -13,7 +13,7 @@ use Rattle.equilibrium.specs.Formula.{Formula, atom, neg, atomsOf, atomsIn}
 use Rattle.equilibrium.specs.Meaning.{_∈_, _⊆_, _≈_}
 use Rattle.equilibrium.proofs.Sets.{≈-refl}
 use Rattle.elk.specs.Sequent.{_⇒_, _⨾_}
-use Rattle.elk.specs.Instance.{domain, chosen, literal, fixed, excluded-middle, joined, UnstableInstance}
+use Rattle.elk.specs.Instance.{domain, chosen, literal, fixed, excluded-middle, joined}
 use Rattle.elk.specs.Instance.{Choice as Chosen}
 use Rattle.elk.proofs.Entries.{UnstableTest, unstable-iff}
 use Rattle.format.specs.File.{Body, decodedAt, decoded}

@@ -1,7 +1,7 @@
 -- A row of `unst` and its premises out of the tables: their sides are those of a held body, and the row is an instance as its
 -- sides are.
 use Prim.Native.Nat.{ℕ, _<_}
-use mathlib.Core.Bool.{Bool, true, false, not, _||_}
+use mathlib.Core.Bool.{true, false, not}
 use mathlib.Core.List.{List, [], _∷_, map, List·Memᴰ·head, List·Memᴰ·tail}
 use mathlib.Core.Option.{Option, none}
 use mathlib.Core.Logic.{_↔_}
@@ -14,8 +14,8 @@ use Rattle.elk.specs.Rules.{entry, kindOf, unstable}
 use Rattle.elk.specs.Instance.{InstanceOf, UnstableInstance}
 use Rattle.format.specs.Text.{strictlyRising, _<$>_}
 use Rattle.format.specs.File.{Row, Body, decodedAt, decoded, sequentOf}
-use Rattle.format.specs.Tables.{absent, Side, fetched, mostOnSide}
-use Rattle.format.specs.Tests.{first, badSide, sideTests, unknownFormula, premisesOf, wrongPremises}
+use Rattle.format.specs.Tables.{absent, Side, fetched}
+use Rattle.format.specs.Tests.{first, badSide, unknownFormula, wrongPremises}
 use Rattle.format.specs.Held.{HeldRow}
 use Rattle.format.proofs.Booleans.{or-false, not-false}
 use Rattle.rows.specs.Judgement.{Judging, RowInstance}

@@ -3,25 +3,22 @@
 use Prim.Native.Nat.{ℕ, _<_}
 use native.Mathlib.Omega.{arith}
 use mathlib.Core.Bool.{Bool, true, false, cond, _&&_, false≢true, true≢false, and-eq-true-iff}
-use mathlib.Core.List.{List, [], _∷_, _++_, map, List·Memᴰ·head, List·Memᴰ·tail, List·Memᴰ·cases-cons, List·Memᴰ·not-nil}
-use mathlib.Core.Logic.{_↔_, _⊎_, inl, inr, ⊎-elim, _≢_}
+use mathlib.Core.List.{List, [], _∷_, map}
+use mathlib.Core.Logic.{_↔_, _≢_}
 use mathlib.Core.Option.{Option, none, some}
 use mathlib.Core.Path.{_≡_, refl, sym, ap, ap₂, subst, _∙_}
 use borrow.Author.Tests.{eqb-true, eq-eqb}
 use lib.Dec.{eqb}
 use lib.ListN.{length}
-use Rattle.equilibrium.specs.Formula.{Formula, falsum, atom, neg, conj, disj, imp}
-use Rattle.equilibrium.specs.Meaning.{_∈_}
-use Rattle.elk.specs.Instance.{domain, chosen, literal, fixed, excluded-middle, joined}
+use Rattle.equilibrium.specs.Formula.{Formula, atom, neg, conj, disj}
+use Rattle.elk.specs.Instance.{domain, literal, excluded-middle, joined}
 use Rattle.elk.specs.Instance.{Choice as Chosen}
-use Rattle.format.specs.Text.{_<$>_}
 use Rattle.format.specs.File.{Body, decodedAt}
 use Rattle.rows.specs.Ground.{Formulas}
 use Rattle.rows.specs.Shapes.{shapeIn}
 use Rattle.rows.specs.Unstable.{signOf, withSign, conjuncts, disjuncts, with, choiceIn, middleIn, middlesIn}
 use Rattle.rows.specs.declared.shapes.Shape.{Shape}
-use Rattle.rows.specs.declared.shapes.Shape.the-variants.{Falsum, Atom, Verum, Negated, Doubled, Conjunction, Disjunction, Other}
-use Rattle.rows.proofs.Shown.{Unnamed, Operands, Shows, shows-falsum, shows-atom, shows-verum, shows-negated, shows-doubled, shows-conjunction, shows-disjunction, shows-other, shape-shows}
+use Rattle.rows.proofs.Shown.{Unnamed, Shows, shows-falsum, shows-atom, shows-verum, shows-negated, shows-doubled, shows-conjunction, shows-disjunction, shows-other, shape-shows}
 
 -- the sign of a formula at p
 data Signed (F : Formula) (p : ℕ) : ℕ → Type 0 where

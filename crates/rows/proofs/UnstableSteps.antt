@@ -22,7 +22,6 @@ use Rattle.rows.specs.Shapes.{shapeIn}
 use Rattle.rows.specs.Unstable.{signOf, withSign, conjuncts, disjuncts, with, choiceIn, Chooses, middleIn, middlesIn}
 use Rattle.rows.specs.declared.shapes.Shape.{Shape}
 use Rattle.rows.specs.declared.shapes.Shape.the-variants.{Conjunction, Disjunction}
-use Rattle.rows.specs.declared.unstable.Choice.{Choice}
 
 -- an atom before those that are chosen
 pub in-put : (t : Bool) (p : ℕ) (ps : List ℕ) (i : ℕ) → (i ∈ put t p ps) ↔ (((t ≡ true) × (i ≡ p)) ⊎ (i ∈ ps))

@@ -1,7 +1,7 @@
 -- The judgement of one row (paper 01, numbers 10 and 11), by tables that hold an accepted beginning.
 use Prim.Native.Nat.{ℕ}
 use mathlib.Core.Path.{_≡_}
-use mathlib.Core.List.{List, []}
+use mathlib.Core.List.{List}
 use mathlib.Core.Option.{Option, none, some}
 use lib.ListN.{length, getD}
 use Rattle.elk.specs.Rules.{codeOf}

@@ -5,7 +5,7 @@ use mathlib.Core.List.{List, [], _∷_, _++_, map}
 use lib.ListN.{length, getD, replicate}
 use Rattle.format.specs.Tables.{joinAll}
 use Rattle.elk.specs.Sequent.{Kind, elk, refutation}
-use Rattle.elk.specs.Rules.{Rule, rules, Form, any, falsity, negation, conjunction, disjunction, implication, double-negation, negated-conjunction, negated-disjunction, negated-implication, Part, Added, Schema, Entry, schema, default, cut, unstable, initial, entry, kindOf, hasPrincipal, premiseKinds}
+use Rattle.elk.specs.Rules.{Rule, rules, Form, any, falsity, negation, conjunction, disjunction, implication, double-negation, negated-conjunction, negated-disjunction, negated-implication, Part, Added, Entry, schema, default, cut, unstable, initial, entry, kindOf, hasPrincipal, premiseKinds}
 
 -- A form is numbered like the word of the formula that it asks for, and four more than the word under the negation; `any`
 -- has the number of no compound word.

@@ -250,7 +250,7 @@ fn show(rule: u16, case: Case) {
     );
 }
 
-pub fn show_cases(rule: u16, cases: &[Case]) {
+pub(crate) fn show_cases(rule: u16, cases: &[Case]) {
     let mut i = 0;
     while i < cases.len() {
         show(rule, cases[i]);

@@ -284,7 +284,7 @@ fn show_unstable() {
     show_cases(13, &UNST);
 }
 
-pub fn show_rules() {
+pub(crate) fn show_rules() {
     show_axioms();
     show_conjunction();
     show_weakening_and_falsum();

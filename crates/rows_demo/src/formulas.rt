@@ -151,7 +151,7 @@ fn put_formula(formulas: &mut [u16], atoms: &mut [u64], i: usize)
     atoms[i] = node_atoms(formulas, atoms, i);
 }
 
-pub fn put_formulas(formulas: &mut [u16], atoms: &mut [u64])
+pub(crate) fn put_formulas(formulas: &mut [u16], atoms: &mut [u64])
     requires { ⌜ length (now atoms) ≡ 34 ⌝ }
 {
     let mut i = 0;

@@ -19,11 +19,11 @@ def    same   andl   andr   wr     bot    orr    orl    notl   impr   impl   not
 xini   xnnl   xnnr   xandl  xandr1 xandr2 xorr   xorl1  xorl2  ximpl1 ximpl2 ximpl3 ximpr1 ximpr2 \
 xnimpl xnimpr1xnimpr2xnandl1xnandl2xnandr xnorl  xnorr1 xnorr2 ";
 
-pub fn put(bytes: &[u8]) {
+pub(crate) fn put(bytes: &[u8]) {
     io::write_all(STDOUT_FILENO, bytes);
 }
 
-pub fn put_rule(rule: u16) {
+pub(crate) fn put_rule(rule: u16) {
     let at = 7 * wide(rule % 37);
     put(&RULE_WORDS[at..at + 7]);
 }
@@ -78,7 +78,7 @@ fn put_operand(formulas: &[u16], x: u16, depth: usize) {
 }
 
 // No formula here has operands more than 3 deep.
-pub fn put_formula(formulas: &[u16], x: u16) {
+pub(crate) fn put_formula(formulas: &[u16], x: u16) {
     let n = node(formulas, wide(x));
     let word = n.word;
     if word < AND_WORD {
@@ -102,7 +102,7 @@ fn put_side(formulas: &[u16], side: &[u16]) {
 }
 
 // The rules of ELK are the first 14, and their rows are written with an arrow.
-pub fn put_sequent(formulas: &[u16], rule: u16, left: &[u16], right: &[u16]) {
+pub(crate) fn put_sequent(formulas: &[u16], rule: u16, left: &[u16], right: &[u16]) {
     put_side(formulas, left);
     if left.len() > 0 {
         put(b" ");
@@ -128,7 +128,7 @@ fn put_row<'a>(formulas: &[u16], rows: &[u16], left: &'a [u16], right: &'a [u16]
 }
 
 // The premises of a row, and that they give it.
-pub fn put_premises<'a>(
+pub(crate) fn put_premises<'a>(
     formulas: &[u16],
     rows: &[u16],
     left: &'a [u16],

@@ -255,7 +255,7 @@ fn show_negated_disjunction() {
     show_cases(36, &XNORR2);
 }
 
-pub fn show_rules() {
+pub(crate) fn show_rules() {
     show_initial();
     show_double_negation();
     show_conjunction();

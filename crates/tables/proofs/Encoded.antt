@@ -13,8 +13,7 @@ use Rattle.equilibrium.specs.Meaning.{_∈_}
 use Rattle.format.specs.Text.{Bytes, any, sameList}
 use Rattle.format.specs.File.{Node, Row, Name}
 use Rattle.format.specs.Tables.{Side, fetched, part, rowAt, padded, joinAll, nodeRecord, nameRecord, rowWidth, rowRecord, rowRecords, leftPool, rightPool}
-use Rattle.tables.specs.declared.records.NodeRecord.{NodeRecord}
-use Rattle.tables.specs.Records.{onSide, nameWidth, nodeWidth, written, nodeAt, nodeOf, nodeNumbers}
+use Rattle.tables.specs.Records.{onSide, nameWidth, nodeWidth, written, nodeAt, nodeOf}
 use Rattle.tables.specs.Lookups.{firstRecords, spelled, spelledBy, nameUsed, StandsIn, atomsOf, atomsByRecord, nodeAtoms}
 use Rattle.tables.proofs.Placed.{part-between, written-padded}
 

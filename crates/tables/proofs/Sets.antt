@@ -1,7 +1,7 @@
 -- Sides as sets of numbers: what `member`, `coveredBy` and `sameList` decide, and what strictly rising lists are like. Assumes nothing.
 use Prim.Native.Nat.{ℕ, zero, suc, _<_}
 use native.Mathlib.Omega.{arith}
-use mathlib.Core.Bool.{Bool, true, false, _&&_, _||_, or-true, and-eq-true-iff, false≢true}
+use mathlib.Core.Bool.{Bool, true, false, _||_, or-true, and-eq-true-iff, false≢true}
 use mathlib.Core.List.{List, [], _∷_, List·Memᴰ·head, List·Memᴰ·tail, List·Memᴰ·cases-cons, List·Memᴰ·not-nil}
 use mathlib.Core.Logic.{_⊎_, inl, inr, ⊎-elim, _↔_, _≢_}
 use mathlib.Core.Path.{_≡_, refl, sym, ap, _∙_, subst}
@@ -10,6 +10,7 @@ use lib.Dec.{eqb, ltb}
 use lib.ListN.{length, getD}
 use Rattle.equilibrium.specs.Meaning.{_∈_}
 use Rattle.format.specs.Text.{all, any, sameList, strictlyRising}
+use Rattle.format.proofs.Booleans.{same-list, list-same}
 use Rattle.tables.specs.Members.{member, coveredBy, Covers}
 
 either : (b c : Bool) → b || c ≡ true → (b ≡ true) ⊎ (c ≡ true)
@@ -86,21 +87,7 @@ pub covers-iff : {a : List ℕ} {x y : ℕ} {b : List ℕ} {r : Bool} → Covers
 covers-iff {a} {x} {y} {b} c ra rb = (λ e. covered-iff a x y b .0 (c .sound e), λ h. c .exact ra rb ∙ covered-iff a x y b .1 h)
 
 pub same-iff : (a b : List ℕ) → (sameList a b ≡ true) ↔ (a ≡ b)
-unfolding sameList
-same-iff [] [] = (λ e. refl, λ h. refl)
-same-iff [] (y ∷ ys) = (λ e. absurd (false≢true e), λ h. cc)
-same-iff (x ∷ xs) [] = (λ e. absurd (false≢true e), λ h. cc)
-same-iff (x ∷ xs) (y ∷ ys) = (to (same-iff xs ys), from (same-iff xs ys))
-  where
-    to : (sameList xs ys ≡ true) ↔ (xs ≡ ys) → eqb x y && sameList xs ys ≡ true → x ∷ xs ≡ y ∷ ys
-    to ih e =
-        let both = and-eq-true-iff (eqb x y) (sameList xs ys) .0 e in
-        let head : x ≡ y = eqb-true x y (both .0) in
-        let tail : xs ≡ ys = ih .0 (both .1) in
-        cc
-
-    from : (sameList xs ys ≡ true) ↔ (xs ≡ ys) → x ∷ xs ≡ y ∷ ys → eqb x y && sameList xs ys ≡ true
-    from ih h = and-eq-true-iff (eqb x y) (sameList xs ys) .1 (eq-eqb x y cc, ih .1 cc)
+same-iff a b = (same-list a b, λ e. subst (λ (l : List ℕ). sameList a l ≡ true) e (list-same a))
 
 pub same-false : (a b : List ℕ) → (a ≡ b → ⊥) → sameList a b ≡ false
 same-false a b n = by (sameList a b) refl

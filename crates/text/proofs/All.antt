@@ -1,16 +1,12 @@
 -- A test of every byte, as a loop makes it: passed before `at`, and what is left from there.
 -- Assumes nothing.
 use Prim.Native.Nat.{ℕ, _+_, _≤_, _<_}
-use mathlib.Core.Path.{_≡_, refl}
-use mathlib.Core.Bool.{Bool, true, false, _&&_, false≢true}
+use mathlib.Core.Path.{_≡_}
+use mathlib.Core.Bool.{Bool, true, false}
 use native.Mathlib.Numerals.{add-one}
 use lib.ListN.{length, getD, drop, drop-of-length-le}
 use lib.Seq.{drop-cons}
 use Rattle.format.specs.Text.{Bytes, all}
-
-pub both : (s t : Bool) → s && t ≡ true → (s ≡ true) × (t ≡ true)
-both true t e = (refl, e)
-both false t e = absurd (false≢true e)
 
 module _ (test : ℕ → Bool) (bs : Bytes) (at : ℕ) where
   pub all-more : at < length bs → test (getD bs at 0) ≡ true → all test (drop at bs) ≡ all test (drop (at + 1) bs)

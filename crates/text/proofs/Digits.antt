@@ -17,7 +17,7 @@ use Rattle.text.specs.Scan.{before}
 use Rattle.text.specs.Answers.{numberAs}
 use Rattle.text.specs.Inner.{digits, entryAs, numberAt}
 use Rattle.text.specs.declared.Entry.{Entry}
-use Rattle.text.proofs.All.{both}
+use Rattle.format.proofs.Booleans.{and-true as both}
 use Rattle.text.proofs.Numbers.{number-empty, number-long, number-stray, number-padded, number-read}
 
 -- ---- the digits at the start of some bytes

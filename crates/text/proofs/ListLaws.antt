@@ -10,7 +10,7 @@ use lib.ListN.{length, take}
 use borrow.Author.Tests.{lt-ltb, le-ltb, ltb-true, ltb-false}
 use Rattle.format.specs.Text.{all}
 use Rattle.text.specs.Answers.{largest, laidOver}
-use Rattle.text.proofs.All.{both}
+use Rattle.format.proofs.Booleans.{and-true as both}
 
 both-below : (x y n : ℕ) → ltb x n && ltb y n ≡ ltb (max x y) n
 both-below x y n = by-tests (ltb x n) (ltb y n) refl refl

@@ -12,7 +12,7 @@ use Rattle.format.specs.Text.{Bytes, bytes, is}
 use Rattle.format.specs.Line.{ruleAmong, ruleOf}
 use Rattle.text.specs.Words.{ruleCode}
 use Rattle.text.specs.Inner.{isShort, IsKey, wordKey, codeAmong}
-use Rattle.text.proofs.All.{both}
+use Rattle.format.proofs.Booleans.{and-true as both}
 
 abbrev allShort : List Rule → Bool
 allShort [] = true

@@ -13,7 +13,7 @@ use borrow.Author.Tests.{eq-eqb, ne-eqb, eqb-true, leb-true, ltb-true}
 use Rattle.format.specs.Text.{Bytes, sameList, all, bytes}
 use Rattle.text.specs.Words.{kindOf, formulaWord}
 use Rattle.text.specs.Inner.{keyOf, IsKey}
-use Rattle.text.proofs.All.{both}
+use Rattle.format.proofs.Booleans.{and-true as both}
 use Rattle.text.specs.declared.Kind.the-variants.{Atom, Formula, Row, Claim, Unknown}
 
 -- ---- one byte

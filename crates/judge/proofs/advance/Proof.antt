@@ -4,54 +4,39 @@ use Rattle.judge.proofs.Running.{advances-stub, advances-step}
 use borrow.Author.Needs.{needs}
 use Rattle.judge.proofs.advance.Statement.{statement}
 use Rattle.judge.proofs.advance.Tie as tie
-use Rattle.judge.proofs.advance.Reads as reads
-use Rattle.judge.proofs.advance.Lts as lts
-use Rattle.lines.proofs.step_line.Reads as step-line-reads
-use Rattle.text.proofs.find.Reads as find-reads
 
--- src/lib.rt:61:9
 find-requires : tie.Need-find-requires
 find-requires c κs = search needs
 
--- src/lib.rt:63:9
 returns : tie.Need-returns
 returns c =
     let first = c .before .before .before .before .before .before .before .before .before in
     advances-stub (first .args .text .now) (first .args .line) (first .args .at) (first .args .counts) _ (first .pre .0) (omega (arith, c .if1 .taken, c .before .find .ensures))
 
--- src/lib.rt:69:9
 step-line-requires : tie.Need-step-line-requires
 step-line-requires c κs = search needs
 
--- src/lib.rt:74:15
 add-t15 : tie.Need-add-t15
 add-t15 c = let first = c .before .before .before .before .before .before .before .before .before .before .before .before .before .before .before .before .before .before .before .before .before .before .before .before .before .before .before .before .before in let few = first .pre .1 in let inside = c .before .before .before .before .before .before .before .before .before .before .before .before .before .before .before .before .before .before .before .before .if1 .left in omega arith
 
--- src/lib.rt:46:1
 same-length : tie.Need-same-length
 same-length c = search needs
 
--- src/lib.rt:46:1
 same-length-2 : tie.Need-same-length-2
 same-length-2 c = search needs
 
--- src/lib.rt:46:1
 same-length-3 : tie.Need-same-length-3
 same-length-3 c = search needs
 
--- src/lib.rt:46:1
 same-length-4 : tie.Need-same-length-4
 same-length-4 c = search needs
 
--- src/lib.rt:46:1
 same-length-5 : tie.Need-same-length-5
 same-length-5 c = search needs
 
--- src/lib.rt:46:1
 same-length-6 : tie.Need-same-length-6
 same-length-6 c = search needs
 
--- src/lib.rt:46:1
 returns-2 : tie.Need-returns-2
 returns-2 c =
     let first = c .before .before .before .before .before .before .before .before .before .before .before .before .before .before .before .before .before .before .before .before .before .before .before .before .before .before .before .before .before in

@@ -4,51 +4,37 @@ use Rattle.judge.proofs.Whole.{zeros-long}
 use borrow.Author.Needs.{needs}
 use Rattle.judge.proofs.clear_all.Statement.{statement}
 use Rattle.judge.proofs.clear_all.Tie as tie
-use Rattle.judge.proofs.clear_all.Reads as reads
-use Rattle.judge.proofs.clear_all.Lts as lts
-use Rattle.tables.proofs.clear.Reads as clear-reads
 
--- src/lib.rt:138:5
 clear-requires : tie.Need-clear-requires
 clear-requires c κs = search needs
 
--- src/lib.rt:139:5
 clear-requires-2 : tie.Need-clear-requires-2
 clear-requires-2 c κs = search needs
 
--- src/lib.rt:140:5
 clear-requires-3 : tie.Need-clear-requires-3
 clear-requires-3 c κs = search needs
 
--- src/lib.rt:141:5
 clear-requires-4 : tie.Need-clear-requires-4
 clear-requires-4 c κs = search needs
 
--- src/lib.rt:142:5
 clear-requires-5 : tie.Need-clear-requires-5
 clear-requires-5 c κs = search needs
 
--- src/lib.rt:135:1
 same-length : tie.Need-same-length
 same-length c = search needs
 
--- src/lib.rt:135:1
 same-length-2 : tie.Need-same-length-2
 same-length-2 c = search needs
 
--- src/lib.rt:135:1
 same-length-3 : tie.Need-same-length-3
 same-length-3 c = search needs
 
--- src/lib.rt:135:1
 same-length-4 : tie.Need-same-length-4
 same-length-4 c = search needs
 
--- src/lib.rt:135:1
 same-length-5 : tie.Need-same-length-5
 same-length-5 c = search needs
 
--- src/lib.rt:135:1
 returns : tie.Need-returns
 returns c =
     record {

@@ -6,98 +6,72 @@ use Rattle.judge.proofs.Whole.{lentOf, judged-short, judged-long, judge
 use borrow.Author.Needs.{needs}
 use Rattle.judge.proofs.judge.Statement.{statement}
 use Rattle.judge.proofs.judge.Tie as tie
-use Rattle.judge.proofs.judge.Reads as reads
-use Rattle.judge.proofs.judge.Lts as lts
-use Rattle.judge.proofs.clear_all.Reads as clear-all-reads
-use Rattle.judge.proofs.run_or_clear.Reads as run-or-clear-reads
-use Rattle.judge.proofs.too_short.Reads as too-short-reads
 
--- src/lib.rt:179:9
 too-short-requires : tie.Need-too-short-requires
 too-short-requires c κs = search needs
 
--- src/lib.rt:186:5
 clear-all-requires : tie.Need-clear-all-requires
 clear-all-requires c κs = search needs
 
--- src/lib.rt:188:9
 same-length : tie.Need-same-length
 same-length c = search needs
 
--- src/lib.rt:188:9
 same-length-2 : tie.Need-same-length-2
 same-length-2 c = search needs
 
--- src/lib.rt:188:9
 same-length-3 : tie.Need-same-length-3
 same-length-3 c = search needs
 
--- src/lib.rt:188:9
 same-length-4 : tie.Need-same-length-4
 same-length-4 c = search needs
 
--- src/lib.rt:188:9
 same-length-5 : tie.Need-same-length-5
 same-length-5 c = search needs
 
--- src/lib.rt:188:9
 returns : tie.Need-returns
 returns c =
     judges-cleared (c .before .before .before .before .before .before .before .before .before .before .before .before .before .before .before .before .before .before .before .before .before .before .before .before .args .text .now) (lentOf (c .before .before .before .before .before .before .before .before .before .before .before .before .before .before .before .before .before .before .before .before .before .before .before .before .args .names .now) (c .before .before .before .before .before .before .before .before .before .before .before .before .before .before .before .before .before .before .before .before .before .before .before .before .args .formulas .now) (c .before .before .before .before .before .before .before .before .before .before .before .before .before .before .before .before .before .before .before .before .before .before .before .before .args .rows .now) (c .before .before .before .before .before .before .before .before .before .before .before .before .before .before .before .before .before .before .before .before .before .before .before .before .args .left .now) (c .before .before .before .before .before .before .before .before .before .before .before .before .before .before .before .before .before .before .before .before .before .before .before .before .args .right .now)) (c .before .before .before .before .before .before .before .before .before .before .before .clear-all .last .0) (c .before .before .before .before .before .before .before .before .before .before .before .clear-all .last .1 .0) (c .before .before .before .before .before .before .before .before .before .before .before .clear-all .last .1 .1 .0) (c .before .before .before .before .before .before .before .before .before .before .before .clear-all .last .1 .1 .1 .0) (c .before .before .before .before .before .before .before .before .before .before .before .clear-all .last .1 .1 .1 .1 .0) _ (same-lent (c .before .before .before .before .before .before .before .before .before .before .before .clear-all .last .0) (c .before .before .before .before .before .before .before .before .before .before .before .clear-all .last .1 .0) (c .before .before .before .before .before .before .before .before .before .before .before .clear-all .last .1 .1 .0) (c .before .before .before .before .before .before .before .before .before .before .before .clear-all .last .1 .1 .1 .0) (c .before .before .before .before .before .before .before .before .before .before .before .clear-all .last .1 .1 .1 .1 .0) (lentOf (c .before .before .before .before .before .before .before .before .before .before .before .before .before .before .before .before .before .before .before .before .before .before .before .before .args .names .now) (c .before .before .before .before .before .before .before .before .before .before .before .before .before .before .before .before .before .before .before .before .before .before .before .before .args .formulas .now) (c .before .before .before .before .before .before .before .before .before .before .before .before .before .before .before .before .before .before .before .before .before .before .before .before .args .rows .now) (c .before .before .before .before .before .before .before .before .before .before .before .before .before .before .before .before .before .before .before .before .before .before .before .before .args .left .now) (c .before .before .before .before .before .before .before .before .before .before .before .before .before .before .before .before .before .before .before .before .before .before .before .before .args .right .now)) (search needs) (search needs) (search needs) (search needs) (search needs))
     (judged-short _ _ (sym (c .before .before .before .before .before .before .before .before .before .before .before .before .before .before .before .before .before .too-short .ensures) ∙ c .if1 .taken)) (λ e. omega (arith, e)) (c .before .before .before .before .before .before .before .before .before .before .before .clear-all .ensures)
 
--- src/lib.rt:191:9
 same-length-6 : tie.Need-same-length-6
 same-length-6 c = search needs
 
--- src/lib.rt:191:9
 same-length-7 : tie.Need-same-length-7
 same-length-7 c = search needs
 
--- src/lib.rt:191:9
 same-length-8 : tie.Need-same-length-8
 same-length-8 c = search needs
 
--- src/lib.rt:191:9
 same-length-9 : tie.Need-same-length-9
 same-length-9 c = search needs
 
--- src/lib.rt:191:9
 same-length-10 : tie.Need-same-length-10
 same-length-10 c = search needs
 
--- src/lib.rt:191:9
 returns-2 : tie.Need-returns-2
 returns-2 c =
     judges-cleared (c .before .before .before .before .before .before .before .before .before .before .before .before .before .before .before .before .before .before .before .before .before .before .before .before .before .args .text .now) (lentOf (c .before .before .before .before .before .before .before .before .before .before .before .before .before .before .before .before .before .before .before .before .before .before .before .before .before .args .names .now) (c .before .before .before .before .before .before .before .before .before .before .before .before .before .before .before .before .before .before .before .before .before .before .before .before .before .args .formulas .now) (c .before .before .before .before .before .before .before .before .before .before .before .before .before .before .before .before .before .before .before .before .before .before .before .before .before .args .rows .now) (c .before .before .before .before .before .before .before .before .before .before .before .before .before .before .before .before .before .before .before .before .before .before .before .before .before .args .left .now) (c .before .before .before .before .before .before .before .before .before .before .before .before .before .before .before .before .before .before .before .before .before .before .before .before .before .args .right .now)) (c .before .before .before .before .before .before .before .before .before .before .before .before .clear-all .last .0) (c .before .before .before .before .before .before .before .before .before .before .before .before .clear-all .last .1 .0) (c .before .before .before .before .before .before .before .before .before .before .before .before .clear-all .last .1 .1 .0) (c .before .before .before .before .before .before .before .before .before .before .before .before .clear-all .last .1 .1 .1 .0) (c .before .before .before .before .before .before .before .before .before .before .before .before .clear-all .last .1 .1 .1 .1 .0) _ (same-lent (c .before .before .before .before .before .before .before .before .before .before .before .before .clear-all .last .0) (c .before .before .before .before .before .before .before .before .before .before .before .before .clear-all .last .1 .0) (c .before .before .before .before .before .before .before .before .before .before .before .before .clear-all .last .1 .1 .0) (c .before .before .before .before .before .before .before .before .before .before .before .before .clear-all .last .1 .1 .1 .0) (c .before .before .before .before .before .before .before .before .before .before .before .before .clear-all .last .1 .1 .1 .1 .0) (lentOf (c .before .before .before .before .before .before .before .before .before .before .before .before .before .before .before .before .before .before .before .before .before .before .before .before .before .args .names .now) (c .before .before .before .before .before .before .before .before .before .before .before .before .before .before .before .before .before .before .before .before .before .before .before .before .before .args .formulas .now) (c .before .before .before .before .before .before .before .before .before .before .before .before .before .before .before .before .before .before .before .before .before .before .before .before .before .args .rows .now) (c .before .before .before .before .before .before .before .before .before .before .before .before .before .before .before .before .before .before .before .before .before .before .before .before .before .args .left .now) (c .before .before .before .before .before .before .before .before .before .before .before .before .before .before .before .before .before .before .before .before .before .before .before .before .before .args .right .now)) (search needs) (search needs) (search needs) (search needs) (search needs))
     (judged-long _ _ (sym (c .before .before .before .before .before .before .before .before .before .before .before .before .before .before .before .before .before .before .too-short .ensures) ∙ c .before .if1 .left) (c .if2 .taken)) (λ e. omega (arith, e)) (c .before .before .before .before .before .before .before .before .before .before .before .before .clear-all .ensures)
 
--- src/lib.rt:193:5
 run-or-clear-requires : tie.Need-run-or-clear-requires
 run-or-clear-requires c κs =
     (c .before .before .before .before .before .if2 .left, ap tooShort (same-lent (c .before .before .before .before .before .before .before .before .before .before .before .before .before .before .before .before .before .clear-all .last .0) (c .before .before .before .before .before .before .before .before .before .before .before .before .before .before .before .before .before .clear-all .last .1 .0) (c .before .before .before .before .before .before .before .before .before .before .before .before .before .before .before .before .before .clear-all .last .1 .1 .0) (c .before .before .before .before .before .before .before .before .before .before .before .before .before .before .before .before .before .clear-all .last .1 .1 .1 .0) (c .before .before .before .before .before .before .before .before .before .before .before .before .before .before .before .before .before .clear-all .last .1 .1 .1 .1 .0) (lentOf (c .before .before .before .before .before .before .before .before .before .before .before .before .before .before .before .before .before .before .before .before .before .before .before .before .before .before .before .before .before .before .args .names .now) (c .before .before .before .before .before .before .before .before .before .before .before .before .before .before .before .before .before .before .before .before .before .before .before .before .before .before .before .before .before .before .args .formulas .now) (c .before .before .before .before .before .before .before .before .before .before .before .before .before .before .before .before .before .before .before .before .before .before .before .before .before .before .before .before .before .before .args .rows .now) (c .before .before .before .before .before .before .before .before .before .before .before .before .before .before .before .before .before .before .before .before .before .before .before .before .before .before .before .before .before .before .args .left .now) (c .before .before .before .before .before .before .before .before .before .before .before .before .before .before .before .before .before .before .before .before .before .before .before .before .before .before .before .before .before .before .args .right .now)) (search needs) (search needs) (search needs) (search needs) (search needs)) ∙ sym (c .before .before .before .before .before .before .before .before .before .before .before .before .before .before .before .before .before .before .before .before .before .before .before .too-short .ensures) ∙ c .before .before .before .before .before .before .if1 .left, c .before .before .before .before .before .before .before .before .before .before .before .before .before .before .before .before .before .clear-all .ensures)
 
--- src/lib.rt:169:1
 same-length-11 : tie.Need-same-length-11
 same-length-11 c = search needs
 
--- src/lib.rt:169:1
 same-length-12 : tie.Need-same-length-12
 same-length-12 c = search needs
 
--- src/lib.rt:169:1
 same-length-13 : tie.Need-same-length-13
 same-length-13 c = search needs
 
--- src/lib.rt:169:1
 same-length-14 : tie.Need-same-length-14
 same-length-14 c = search needs
 
--- src/lib.rt:169:1
 same-length-15 : tie.Need-same-length-15
 same-length-15 c = search needs
 
--- src/lib.rt:169:1
 returns-3 : tie.Need-returns-3
 returns-3 c =
     judges-run (c .before .before .before .before .before .before .before .before .before .before .before .before .before .before .before .before .before .before .before .before .before .before .before .before .before .before .before .before .before .before .before .before .before .before .before .before .before .before .before .before .before .args .text .now) (lentOf (c .before .before .before .before .before .before .before .before .before .before .before .before .before .before .before .before .before .before .before .before .before .before .before .before .before .before .before .before .before .before .before .before .before .before .before .before .before .before .before .before .before .args .names .now) (c .before .before .before .before .before .before .before .before .before .before .before .before .before .before .before .before .before .before .before .before .before .before .before .before .before .before .before .before .before .before .before .before .before .before .before .before .before .before .before .before .before .args .formulas .now) (c .before .before .before .before .before .before .before .before .before .before .before .before .before .before .before .before .before .before .before .before .before .before .before .before .before .before .before .before .before .before .before .before .before .before .before .before .before .before .before .before .before .args .rows .now) (c .before .before .before .before .before .before .before .before .before .before .before .before .before .before .before .before .before .before .before .before .before .before .before .before .before .before .before .before .before .before .before .before .before .before .before .before .before .before .before .before .before .args .left .now) (c .before .before .before .before .before .before .before .before .before .before .before .before .before .before .before .before .before .before .before .before .before .before .before .before .before .before .before .before .before .before .before .before .before .before .before .before .before .before .before .before .before .args .right .now)) (c .before .before .before .before .before .before .before .before .before .before .run-or-clear .last .1 .0) (c .before .before .before .before .before .before .before .before .before .before .run-or-clear .last .1 .1 .0) (c .before .before .before .before .before .before .before .before .before .before .run-or-clear .last .1 .1 .1 .0) (c .before .before .before .before .before .before .before .before .before .before .run-or-clear .last .1 .1 .1 .1 .0) (c .before .before .before .before .before .before .before .before .before .before .run-or-clear .last .1 .1 .1 .1 .1 .0) _ (same-lent (c .before .before .before .before .before .before .before .before .before .before .run-or-clear .last .1 .0) (c .before .before .before .before .before .before .before .before .before .before .run-or-clear .last .1 .1 .0) (c .before .before .before .before .before .before .before .before .before .before .run-or-clear .last .1 .1 .1 .0) (c .before .before .before .before .before .before .before .before .before .before .run-or-clear .last .1 .1 .1 .1 .0) (c .before .before .before .before .before .before .before .before .before .before .run-or-clear .last .1 .1 .1 .1 .1 .0) (lentOf (c .before .before .before .before .before .before .before .before .before .before .before .before .before .before .before .before .before .before .before .before .before .before .before .before .before .before .before .before .before .before .before .before .before .before .before .before .before .before .before .before .before .args .names .now) (c .before .before .before .before .before .before .before .before .before .before .before .before .before .before .before .before .before .before .before .before .before .before .before .before .before .before .before .before .before .before .before .before .before .before .before .before .before .before .before .before .before .args .formulas .now) (c .before .before .before .before .before .before .before .before .before .before .before .before .before .before .before .before .before .before .before .before .before .before .before .before .before .before .before .before .before .before .before .before .before .before .before .before .before .before .before .before .before .args .rows .now) (c .before .before .before .before .before .before .before .before .before .before .before .before .before .before .before .before .before .before .before .before .before .before .before .before .before .before .before .before .before .before .before .before .before .before .before .before .before .before .before .before .before .args .left .now) (c .before .before .before .before .before .before .before .before .before .before .before .before .before .before .before .before .before .before .before .before .before .before .before .before .before .before .before .before .before .before .before .before .before .before .before .before .before .before .before .before .before .args .right .now)) (search needs) (search needs) (search needs) (search needs) (search needs))

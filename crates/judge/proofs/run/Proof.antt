@@ -1,5 +1,5 @@
 -- `judge::run` meets its contract: the loop keeps `Running`, and each return is one of its laws.
-use Prim.Native.Nat.{_≤_, _-_}
+use Prim.Native.Nat.{_-_}
 use native.Mathlib.Omega.{arith}
 use borrow.Author.Needs.{needs}
 use mathlib.Core.Path.{_≡_, refl}
@@ -9,10 +9,6 @@ use Rattle.judge.specs.Running.{Running}
 use Rattle.judge.proofs.Running.{running-start, counted-nothing, run-refused, run-unclaimed, run-claimed}
 use Rattle.judge.proofs.run.Statement.{statement}
 use Rattle.judge.proofs.run.Tie as tie
-use Rattle.judge.proofs.run.Reads as reads
-use Rattle.judge.proofs.run.Lts as lts
-use Rattle.judge.proofs.advance.Reads as advance-reads
-use Rattle.judge.proofs.nothing.Reads as nothing-reads
 
 abbrev Inv-loop : tie.InvT-loop
 Inv-loop text names₀ formulas₀ words₀ rows₀ left₀ right₀ counts₀ at₀ line₀ names formulas words rows left right counts at line =
@@ -22,119 +18,92 @@ Inv-loop text names₀ formulas₀ words₀ rows₀ left₀ right₀ counts₀ a
 abbrev μ-loop : tie.MeasureT-loop
 μ-loop text names₀ formulas₀ words₀ rows₀ left₀ right₀ counts₀ at₀ line₀ names formulas words rows left right counts at line = length text - at
 
--- src/lib.rt:92:9
 nothing-requires : tie.Need-nothing-requires Inv-loop μ-loop
 nothing-requires c κs = search needs
 
--- src/lib.rt:95:5
 loop-holds : tie.Need-loop-holds Inv-loop μ-loop
 loop-holds c =
     let first = c .before .before .before .before .before .before .before .before in
     (running-start (first .args .text .now) _ (c .nothing .result) (first .pre .1) (first .pre .2) (first .pre .3) (counted-nothing _ (c .nothing .ensures)), refl, refl, refl, refl, refl, refl)
 
--- src/lib.rt:96:13
 advance-requires : tie.Need-advance-requires Inv-loop μ-loop
 advance-requires c κs = search needs
 
--- src/lib.rt:99:13
 same-length : tie.Need-same-length Inv-loop μ-loop
 same-length c = search needs
 
--- src/lib.rt:99:13
 same-length-2 : tie.Need-same-length-2 Inv-loop μ-loop
 same-length-2 c = search needs
 
--- src/lib.rt:99:13
 same-length-3 : tie.Need-same-length-3 Inv-loop μ-loop
 same-length-3 c = search needs
 
--- src/lib.rt:99:13
 same-length-4 : tie.Need-same-length-4 Inv-loop μ-loop
 same-length-4 c = search needs
 
--- src/lib.rt:99:13
 same-length-5 : tie.Need-same-length-5 Inv-loop μ-loop
 same-length-5 c = search needs
 
--- src/lib.rt:99:13
 same-length-6 : tie.Need-same-length-6 Inv-loop μ-loop
 same-length-6 c = search needs
 
--- src/lib.rt:99:13
 returns : tie.Need-returns Inv-loop μ-loop
 returns c =
     let loop = c .before .before .before .before .before .before .before .before .before .before .before .before .before .before .before .before .before .before .before .before .before .loop in
     inr (run-refused (c .before .before .before .before .before .before .before .before .before .before .before .before .before .before .before .before .before .before .before .before .before .before .before .before .before .before .before .before .before .before .args .text .now) (loop .line) (loop .at) (c .before .before .before .before .before .before .before .before .before .before .before .before .before .advance .result) _ (c .before .before .before .before .before .before .before .before .before .before .before .before .before .advance .ensures (loop .inv .0)) (c .if1 .taken))
 
--- src/lib.rt:103:9
 add-line : tie.Need-add-line Inv-loop μ-loop
 add-line c = let loop = c .before .before .before .before .before .before .before .before .before .before .before .before .before .before .before .before .before .before .before .before .before .before .loop in let few = loop .inv .0 .few in let test = c .before .before .before .before .before .before .before .before .before .before .before .before .before .before .before .before .before .before .before .before .before .loop-test in let most = c .before .before .before .before .before .before .before .before .before .before .before .before .before .before .before .before .before .before .before .before .before .before .before .before .before .before .before .before .before .before .before .pre .0 in omega arith
 
--- src/lib.rt:95:5
 loop-less : tie.Need-loop-less Inv-loop μ-loop
 loop-less c = let loop = c .before .before .before .before .before .before .before .before .before .before .before .before .before .before .before .before .before .before .before .before .before .before .loop in let test = c .before .before .before .before .before .before .before .before .before .before .before .before .before .before .before .before .before .before .before .before .before .loop-test in let more = (c .before .before .before .before .before .before .before .before .before .before .before .before .before .before .advance .ensures (loop .inv .0)) .further (c .before .if1 .left) in omega arith
 
--- src/lib.rt:95:5
 loop-again : tie.Need-loop-again Inv-loop μ-loop
 loop-again c =
     let loop = c .before .before .before .before .before .before .before .before .before .before .before .before .before .before .before .before .before .before .before .before .before .before .loop in
     ((c .before .before .before .before .before .before .before .before .before .before .before .before .before .before .advance .ensures (loop .inv .0)) .passed (c .before .if1 .left), search needs, search needs, search needs, search needs, search needs, search needs)
 
--- src/lib.rt:107:9
 same-length-7 : tie.Need-same-length-7 Inv-loop μ-loop
 same-length-7 c = search needs
 
--- src/lib.rt:107:9
 same-length-8 : tie.Need-same-length-8 Inv-loop μ-loop
 same-length-8 c = search needs
 
--- src/lib.rt:107:9
 same-length-9 : tie.Need-same-length-9 Inv-loop μ-loop
 same-length-9 c = search needs
 
--- src/lib.rt:107:9
 same-length-10 : tie.Need-same-length-10 Inv-loop μ-loop
 same-length-10 c = search needs
 
--- src/lib.rt:107:9
 same-length-11 : tie.Need-same-length-11 Inv-loop μ-loop
 same-length-11 c = search needs
 
--- src/lib.rt:107:9
 same-length-12 : tie.Need-same-length-12 Inv-loop μ-loop
 same-length-12 c = search needs
 
--- src/lib.rt:107:9
 returns-2 : tie.Need-returns-2 Inv-loop μ-loop
 returns-2 c =
     let loop = c .before .before .loop in
     inr (run-unclaimed (c .before .before .before .before .before .before .before .before .before .before .before .args .text .now) (loop .line) (loop .at) (loop .counts) _ (loop .inv .0) (c .before .loop-test .left) (c .if2 .taken))
 
--- src/lib.rt:80:1
 same-length-13 : tie.Need-same-length-13 Inv-loop μ-loop
 same-length-13 c = search needs
 
--- src/lib.rt:80:1
 same-length-14 : tie.Need-same-length-14 Inv-loop μ-loop
 same-length-14 c = search needs
 
--- src/lib.rt:80:1
 same-length-15 : tie.Need-same-length-15 Inv-loop μ-loop
 same-length-15 c = search needs
 
--- src/lib.rt:80:1
 same-length-16 : tie.Need-same-length-16 Inv-loop μ-loop
 same-length-16 c = search needs
 
--- src/lib.rt:80:1
 same-length-17 : tie.Need-same-length-17 Inv-loop μ-loop
 same-length-17 c = search needs
 
--- src/lib.rt:80:1
 same-length-18 : tie.Need-same-length-18 Inv-loop μ-loop
 same-length-18 c = search needs
 
--- src/lib.rt:80:1
 returns-3 : tie.Need-returns-3 Inv-loop μ-loop
 returns-3 c =
     let loop = c .before .before .loop in

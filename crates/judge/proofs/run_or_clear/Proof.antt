@@ -5,70 +5,51 @@ use Rattle.judge.proofs.Whole.{kept, refuses, long-enough, zeros-long}
 use borrow.Author.Needs.{needs}
 use Rattle.judge.proofs.run_or_clear.Statement.{statement}
 use Rattle.judge.proofs.run_or_clear.Tie as tie
-use Rattle.judge.proofs.run_or_clear.Reads as reads
-use Rattle.judge.proofs.run_or_clear.Lts as lts
-use Rattle.judge.proofs.clear_all.Reads as clear-all-reads
-use Rattle.judge.proofs.run.Reads as run-reads
 
--- src/lib.rt:158:45
 slice-aggregate-run : tie.Need-slice-aggregate-run
 slice-aggregate-run c = search needs
 
--- src/lib.rt:158:9
 run-requires : tie.Need-run-requires
 run-requires c κs =
     let first = c .before .before .before .before .before .before .before .before .before .before .before .before in
     (first .pre .0, long-enough _ (first .pre .1) (search needs), first .pre .2, zeros-long _ 3072 refl)
 
--- src/lib.rt:161:9
 same-length : tie.Need-same-length
 same-length c = search needs
 
--- src/lib.rt:161:9
 same-length-2 : tie.Need-same-length-2
 same-length-2 c = search needs
 
--- src/lib.rt:161:9
 same-length-3 : tie.Need-same-length-3
 same-length-3 c = search needs
 
--- src/lib.rt:161:9
 same-length-4 : tie.Need-same-length-4
 same-length-4 c = search needs
 
--- src/lib.rt:161:9
 same-length-5 : tie.Need-same-length-5
 same-length-5 c = search needs
 
--- src/lib.rt:161:9
 returns : tie.Need-returns
 returns c = kept (c .before .before .before .before .before .before .before .before .before .before .before .before .run .ensures) (c .if1 .taken)
 
--- src/lib.rt:163:5
 clear-all-requires : tie.Need-clear-all-requires
 clear-all-requires c κs = search needs
 
--- src/lib.rt:146:1
 same-length-6 : tie.Need-same-length-6
 same-length-6 c = search needs
 
--- src/lib.rt:146:1
 same-length-7 : tie.Need-same-length-7
 same-length-7 c = search needs
 
--- src/lib.rt:146:1
 same-length-8 : tie.Need-same-length-8
 same-length-8 c = search needs
 
--- src/lib.rt:146:1
 same-length-9 : tie.Need-same-length-9
 same-length-9 c = search needs
 
--- src/lib.rt:146:1
 same-length-10 : tie.Need-same-length-10
 same-length-10 c = search needs
 
--- src/lib.rt:146:1
 returns-2 : tie.Need-returns-2
 returns-2 c = inr (refuses (c .before .before .before .before .before .before .before .before .before .before .before .before .before .before .before .before .before .before .before .before .before .before .before .before .before .before .before .before .run .ensures) (c .before .before .before .before .before .before .before .before .before .before .before .before .before .before .before .before .if1 .left), c .before .before .before .before .before .before .before .before .before .before .clear-all .ensures)
 

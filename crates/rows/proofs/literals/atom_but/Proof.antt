@@ -6,8 +6,6 @@ use Rattle.rows.proofs.Tags.{not-tag, not-atom}
 use borrow.Author.Needs.{needs}
 use Rattle.rows.proofs.literals.atom_but.Statement.{statement}
 use Rattle.rows.proofs.literals.atom_but.Tie as tie
-use Rattle.rows.proofs.literals.atom_but.Reads as reads
-use Rattle.rows.proofs.literals.atom_but.Lts as lts
 
 enum-known-s : tie.Need-enum-known-s
 enum-known-s c = search needs

@@ -13,10 +13,6 @@ use Rattle.rows.specs.Literals.{atomBut, atomsBut}
 use borrow.Author.Needs.{needs}
 use Rattle.rows.proofs.literals.atoms_but.Statement.{statement}
 use Rattle.rows.proofs.literals.atoms_but.Tie as tie
-use Rattle.rows.proofs.literals.atoms_but.Reads as reads
-use Rattle.rows.proofs.literals.atoms_but.Lts as lts
-use Rattle.rows.proofs.literals.atom_but.Reads as atom-but-reads
-use Rattle.rows.proofs.shapes.shape_of.Reads as shape-of-reads
 
 module _ (formulas : List ℕ) (p : ℕ) (side : List ℕ) (i : ℕ) where
   head : i < length side → atomsBut formulas p (drop i side) ≡ (atomBut p (shapeIn formulas (getD side i 0)) && atomsBut formulas p (drop (i + 1) side))

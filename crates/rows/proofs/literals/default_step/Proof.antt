@@ -9,11 +9,6 @@ use Rattle.rows.proofs.Tags.{tag, not-tag}
 use borrow.Author.Needs.{needs}
 use Rattle.rows.proofs.literals.default_step.Statement.{statement}
 use Rattle.rows.proofs.literals.default_step.Tie as tie
-use Rattle.rows.proofs.literals.default_step.Reads as reads
-use Rattle.rows.proofs.literals.default_step.Lts as lts
-use Rattle.rows.proofs.literals.atoms_but.Reads as atoms-but-reads
-use Rattle.rows.proofs.shapes.shape_of.Reads as shape-of-reads
-use Rattle.tables.proofs.sides.contains.Reads as contains-reads
 
 shape-of-requires : tie.Need-shape-of-requires
 shape-of-requires c κs = search needs

@@ -3,10 +3,6 @@ use Rattle.atomset.proofs.Membership.{member-difference}
 use borrow.Author.Needs.{needs}
 use Rattle.rows.proofs.literals.disjoint.Statement.{statement}
 use Rattle.rows.proofs.literals.disjoint.Tie as tie
-use Rattle.rows.proofs.literals.disjoint.Reads as reads
-use Rattle.rows.proofs.literals.disjoint.Lts as lts
-use Rattle.atomset.proofs.difference.Reads as difference-reads
-use Rattle.atomset.proofs.is_subset.Reads as is-subset-reads
 
 difference-requires : tie.Need-difference-requires
 difference-requires c κs = search needs

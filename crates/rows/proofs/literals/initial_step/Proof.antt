@@ -7,10 +7,6 @@ use Rattle.rows.proofs.LiteralRules.{initial-row}
 use borrow.Author.Needs.{needs}
 use Rattle.rows.proofs.literals.initial_step.Statement.{statement}
 use Rattle.rows.proofs.literals.initial_step.Tie as tie
-use Rattle.rows.proofs.literals.initial_step.Reads as reads
-use Rattle.rows.proofs.literals.initial_step.Lts as lts
-use Rattle.rows.proofs.literals.disjoint.Reads as disjoint-reads
-use Rattle.rows.proofs.literals.literals_of.Reads as literals-of-reads
 
 literals-of-requires : tie.Need-literals-of-requires
 literals-of-requires c κs = search needs

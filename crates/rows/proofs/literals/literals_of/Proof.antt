@@ -14,10 +14,6 @@ use Rattle.rows.proofs.Collected.{Passed, pass-starts, pass-goes-on, pa
 use borrow.Author.Needs.{needs}
 use Rattle.rows.proofs.literals.literals_of.Statement.{statement}
 use Rattle.rows.proofs.literals.literals_of.Tie as tie
-use Rattle.rows.proofs.literals.literals_of.Reads as reads
-use Rattle.rows.proofs.literals.literals_of.Lts as lts
-use Rattle.rows.proofs.literals.with_literal.Reads as with-literal-reads
-use Rattle.rows.proofs.shapes.shape_of.Reads as shape-of-reads
 
 -- the test of the formulas of a side
 abbrev shaped : (Shape → Bool) → List ℕ → ℕ → Bool

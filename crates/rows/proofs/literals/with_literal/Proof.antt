@@ -7,9 +7,6 @@ use Rattle.rows.specs.declared.literals.Literals.{Literals}
 use borrow.Author.Needs.{needs}
 use Rattle.rows.proofs.literals.with_literal.Statement.{statement}
 use Rattle.rows.proofs.literals.with_literal.Tie as tie
-use Rattle.rows.proofs.literals.with_literal.Reads as reads
-use Rattle.rows.proofs.literals.with_literal.Lts as lts
-use Rattle.atomset.proofs.insert.Reads as insert-reads
 
 kept : (x : Bool) → x ≡ (x || false)
 kept x = sym (or-false x)

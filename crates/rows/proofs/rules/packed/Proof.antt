@@ -1,5 +1,4 @@
 -- `rows::rules::packed` meets its contract: each arm by computation, and what is left lies past the table.
-use native.Mathlib.Omega.{arith}
 use mathlib.Core.Path.{sym}
 use lib.ListN.{List·getD-eq-default}
 use borrow.Author.Needs.{needs}

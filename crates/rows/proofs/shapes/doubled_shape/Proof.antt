@@ -5,10 +5,6 @@ use Rattle.rows.proofs.Shown.{doubled-atom, doubled-other, doubled-read
 use borrow.Author.Needs.{needs}
 use Rattle.rows.proofs.shapes.doubled_shape.Statement.{statement}
 use Rattle.rows.proofs.shapes.doubled_shape.Tie as tie
-use Rattle.rows.proofs.shapes.doubled_shape.Reads as reads
-use Rattle.rows.proofs.shapes.doubled_shape.Lts as lts
-use Rattle.tables.proofs.records.node.Reads as node-reads
-use Rattle.tables.proofs.records.wide.Reads as wide-reads
 
 wide-requires : tie.Need-wide-requires
 wide-requires c κs = search needs

@@ -5,11 +5,6 @@ use Rattle.rows.proofs.Shown.{negated-falsum, negated-atom, negated-not
 use borrow.Author.Needs.{needs}
 use Rattle.rows.proofs.shapes.negated_shape.Statement.{statement}
 use Rattle.rows.proofs.shapes.negated_shape.Tie as tie
-use Rattle.rows.proofs.shapes.negated_shape.Reads as reads
-use Rattle.rows.proofs.shapes.negated_shape.Lts as lts
-use Rattle.rows.proofs.shapes.doubled_shape.Reads as doubled-shape-reads
-use Rattle.tables.proofs.records.node.Reads as node-reads
-use Rattle.tables.proofs.records.wide.Reads as wide-reads
 
 wide-requires : tie.Need-wide-requires
 wide-requires c κs = search needs

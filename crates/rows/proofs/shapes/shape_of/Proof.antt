@@ -5,11 +5,6 @@ use Rattle.rows.proofs.Shown.{shape-falsum, shape-atom, shape-not, shap
 use borrow.Author.Needs.{needs}
 use Rattle.rows.proofs.shapes.shape_of.Statement.{statement}
 use Rattle.rows.proofs.shapes.shape_of.Tie as tie
-use Rattle.rows.proofs.shapes.shape_of.Reads as reads
-use Rattle.rows.proofs.shapes.shape_of.Lts as lts
-use Rattle.rows.proofs.shapes.negated_shape.Reads as negated-shape-reads
-use Rattle.tables.proofs.records.node.Reads as node-reads
-use Rattle.tables.proofs.records.wide.Reads as wide-reads
 
 wide-requires : tie.Need-wide-requires
 wide-requires c κs = search needs

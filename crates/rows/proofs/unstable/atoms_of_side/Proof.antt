@@ -1,8 +1,8 @@
 -- `rows::unstable::atoms_of_side` meets its contract. The invariant of its loop: the set has the atoms of what was passed.
-use Prim.Native.Nat.{ℕ, _-_, _+_}
+use Prim.Native.Nat.{ℕ, _-_}
 use mathlib.Core.Bool.{Bool, _||_}
 use mathlib.Core.List.{List}
-use mathlib.Core.Path.{_≡_, sym, ap, subst, _∙_}
+use mathlib.Core.Path.{sym, ap, subst, _∙_}
 use lib.ListN.{length, getD}
 use Rattle.atomset.specs.AtomSet.{has}
 use Rattle.atomset.proofs.Digits.{has-zero}
@@ -11,11 +11,6 @@ use Rattle.rows.proofs.Collected.{Passed, pass-starts, pass-goes-on, pa
 use borrow.Author.Needs.{needs}
 use Rattle.rows.proofs.unstable.atoms_of_side.Statement.{statement}
 use Rattle.rows.proofs.unstable.atoms_of_side.Tie as tie
-use Rattle.rows.proofs.unstable.atoms_of_side.Reads as reads
-use Rattle.rows.proofs.unstable.atoms_of_side.Lts as lts
-use Rattle.atomset.proofs.union.Reads as union-reads
-use Rattle.tables.proofs.index.word.Reads as word-reads
-use Rattle.tables.proofs.records.wide.Reads as wide-reads
 
 -- p is an atom of formula x
 abbrev occurs : List ℕ → ℕ → ℕ → Bool

@@ -9,14 +9,6 @@ use Rattle.rows.proofs.UnstableSteps.{walk-falls, Reading, reading-star
 use borrow.Author.Needs.{needs}
 use Rattle.rows.proofs.unstable.choice_by.Statement.{statement}
 use Rattle.rows.proofs.unstable.choice_by.Tie as tie
-use Rattle.rows.proofs.unstable.choice_by.Reads as reads
-use Rattle.rows.proofs.unstable.choice_by.Lts as lts
-use Rattle.atomset.proofs.first.Reads as first-reads
-use Rattle.atomset.proofs.is_empty.Reads as is-empty-reads
-use Rattle.atomset.proofs.without_first.Reads as without-first-reads
-use Rattle.rows.proofs.shapes.shape_of.Reads as shape-of-reads
-use Rattle.rows.proofs.unstable.sign_in.Reads as sign-in-reads
-use Rattle.rows.proofs.unstable.with_sign.Reads as with-sign-reads
 
 abbrev Inv-loop : tie.InvT-loop
 Inv-loop formulas k v refused p₀ rest₀ at₀ set₀ p rest at set = Reading formulas k v p rest at set

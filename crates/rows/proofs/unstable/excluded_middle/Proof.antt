@@ -7,10 +7,6 @@ use Rattle.rows.proofs.UnstableSteps.{middle-none, middle-fails, middle
 use borrow.Author.Needs.{needs}
 use Rattle.rows.proofs.unstable.excluded_middle.Statement.{statement}
 use Rattle.rows.proofs.unstable.excluded_middle.Tie as tie
-use Rattle.rows.proofs.unstable.excluded_middle.Reads as reads
-use Rattle.rows.proofs.unstable.excluded_middle.Lts as lts
-use Rattle.rows.proofs.shapes.shape_of.Reads as shape-of-reads
-use Rattle.rows.proofs.unstable.sign_in.Reads as sign-in-reads
 
 shape-of-requires : tie.Need-shape-of-requires
 shape-of-requires c κs = search needs

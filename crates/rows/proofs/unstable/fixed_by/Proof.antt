@@ -7,10 +7,6 @@ use Rattle.rows.proofs.Tags.{not-tag, fixes-none}
 use borrow.Author.Needs.{needs}
 use Rattle.rows.proofs.unstable.fixed_by.Statement.{statement}
 use Rattle.rows.proofs.unstable.fixed_by.Tie as tie
-use Rattle.rows.proofs.unstable.fixed_by.Reads as reads
-use Rattle.rows.proofs.unstable.fixed_by.Lts as lts
-use Rattle.rows.proofs.shapes.shape_of.Reads as shape-of-reads
-use Rattle.rows.proofs.unstable.only.Reads as only-reads
 
 shape-of-requires : tie.Need-shape-of-requires
 shape-of-requires c κs = search needs

@@ -7,13 +7,6 @@ use Rattle.rows.proofs.UnstableFixes.{Passing, passing-starts, met-insi
 use borrow.Author.Needs.{needs}
 use Rattle.rows.proofs.unstable.fixes.Statement.{statement}
 use Rattle.rows.proofs.unstable.fixes.Tie as tie
-use Rattle.rows.proofs.unstable.fixes.Reads as reads
-use Rattle.rows.proofs.unstable.fixes.Lts as lts
-use Rattle.atomset.proofs.is_empty.Reads as is-empty-reads
-use Rattle.atomset.proofs.is_subset.Reads as is-subset-reads
-use Rattle.atomset.proofs.union.Reads as union-reads
-use Rattle.rows.proofs.unstable.fixed_by.Reads as fixed-by-reads
-use Rattle.rows.proofs.unstable.stands_at.Reads as stands-at-reads
 
 abbrev Inv-loop : tie.InvT-loop
 Inv-loop formulas side l set others fixed₀ i₀ j₀ fixed i j = Passing formulas side l set others fixed i j

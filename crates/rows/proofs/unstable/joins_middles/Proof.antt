@@ -1,7 +1,5 @@
 -- `rows::unstable::joins_middles` meets its contract. The invariant of its loop: the answer for E is that for what is left of it.
-use Prim.Native.Nat.{ℕ}
-use mathlib.Core.Bool.{Bool, _&&_}
-use mathlib.Core.List.{List, [], _∷_}
+use mathlib.Core.List.{[], _∷_}
 use mathlib.Core.Path.{_≡_, refl, sym, ap, ap₂, _∙_}
 use borrow.Author.Tests.{not-true, not-false}
 use lib.ListN.{length, getD, drop}
@@ -12,13 +10,6 @@ use Rattle.rows.proofs.UnstableSteps.{walk-falls, middles-stop, middles
 use borrow.Author.Needs.{needs}
 use Rattle.rows.proofs.unstable.joins_middles.Statement.{statement}
 use Rattle.rows.proofs.unstable.joins_middles.Tie as tie
-use Rattle.rows.proofs.unstable.joins_middles.Reads as reads
-use Rattle.rows.proofs.unstable.joins_middles.Lts as lts
-use Rattle.atomset.proofs.first.Reads as first-reads
-use Rattle.atomset.proofs.is_empty.Reads as is-empty-reads
-use Rattle.atomset.proofs.without_first.Reads as without-first-reads
-use Rattle.rows.proofs.shapes.shape_of.Reads as shape-of-reads
-use Rattle.rows.proofs.unstable.excluded_middle.Reads as excluded-middle-reads
 
 abbrev Inv-loop : tie.InvT-loop
 Inv-loop formulas e set p₀ rest₀ at₀ p rest at = middlesIn formulas e (getD (members set) 0 64) (drop 1 (members set)) ≡ middlesIn formulas at p (members rest)

@@ -8,10 +8,6 @@ use Rattle.atomset.proofs.Membership.{member-lt}
 use borrow.Author.Needs.{needs}
 use Rattle.rows.proofs.unstable.only.Statement.{statement}
 use Rattle.rows.proofs.unstable.only.Tie as tie
-use Rattle.rows.proofs.unstable.only.Reads as reads
-use Rattle.rows.proofs.unstable.only.Lts as lts
-use Rattle.atomset.proofs.contains.Reads as contains-reads
-use Rattle.atomset.proofs.single.Reads as single-reads
 
 contains-requires : tie.Need-contains-requires
 contains-requires c κs = search needs

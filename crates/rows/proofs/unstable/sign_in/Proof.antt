@@ -5,10 +5,6 @@ use Rattle.rows.specs.declared.shapes.Shape.{Shape}
 use borrow.Author.Needs.{needs}
 use Rattle.rows.proofs.unstable.sign_in.Statement.{statement}
 use Rattle.rows.proofs.unstable.sign_in.Tie as tie
-use Rattle.rows.proofs.unstable.sign_in.Reads as reads
-use Rattle.rows.proofs.unstable.sign_in.Lts as lts
-use Rattle.rows.proofs.shapes.shape_of.Reads as shape-of-reads
-use Rattle.rows.proofs.unstable.sign_of.Reads as sign-of-reads
 
 shape-of-requires : tie.Need-shape-of-requires
 shape-of-requires c κs = search needs

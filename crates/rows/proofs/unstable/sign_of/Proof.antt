@@ -10,8 +10,6 @@ use Rattle.rows.proofs.Tags.{not-tag, no-sign}
 use borrow.Author.Needs.{needs}
 use Rattle.rows.proofs.unstable.sign_of.Statement.{statement}
 use Rattle.rows.proofs.unstable.sign_of.Tie as tie
-use Rattle.rows.proofs.unstable.sign_of.Reads as reads
-use Rattle.rows.proofs.unstable.sign_of.Lts as lts
 
 enum-known-s : tie.Need-enum-known-s
 enum-known-s c = search needs

@@ -7,8 +7,6 @@ use lib.ListN.{getD}
 use borrow.Author.Needs.{needs}
 use Rattle.rows.proofs.unstable.stands_at.Statement.{statement}
 use Rattle.rows.proofs.unstable.stands_at.Tie as tie
-use Rattle.rows.proofs.unstable.stands_at.Reads as reads
-use Rattle.rows.proofs.unstable.stands_at.Lts as lts
 
 returns : tie.Need-returns
 returns c = sym (ap (λ (t : Bool). t && eqb (getD (c .before .args .l .now) (c .before .args .j) 0) (c .before .args .x)) (le-ltb _ _ (c .if1 .taken)))

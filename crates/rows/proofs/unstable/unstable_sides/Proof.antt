@@ -11,15 +11,6 @@ use Rattle.rows.proofs.UnstableInstances.{single, atoms-in, left-same, 
 use borrow.Author.Needs.{needs}
 use Rattle.rows.proofs.unstable.unstable_sides.Statement.{statement}
 use Rattle.rows.proofs.unstable.unstable_sides.Tie as tie
-use Rattle.rows.proofs.unstable.unstable_sides.Reads as reads
-use Rattle.rows.proofs.unstable.unstable_sides.Lts as lts
-use Rattle.atomset.proofs.difference.Reads as difference-reads
-use Rattle.atomset.proofs.is_empty.Reads as is-empty-reads
-use Rattle.rows.proofs.unstable.atoms_of_side.Reads as atoms-of-side-reads
-use Rattle.rows.proofs.unstable.choice_by.Reads as choice-by-reads
-use Rattle.rows.proofs.unstable.fixes.Reads as fixes-reads
-use Rattle.rows.proofs.unstable.joins_middles.Reads as joins-middles-reads
-use Rattle.tables.proofs.sides.same.Reads as same-reads
 
 same-requires : tie.Need-same-requires
 same-requires c κs = search needs

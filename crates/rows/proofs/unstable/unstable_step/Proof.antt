@@ -4,11 +4,6 @@ use Rattle.rows.proofs.UnstableRow.{unstable-sides}
 use borrow.Author.Needs.{needs}
 use Rattle.rows.proofs.unstable.unstable_step.Statement.{statement}
 use Rattle.rows.proofs.unstable.unstable_step.Tie as tie
-use Rattle.rows.proofs.unstable.unstable_step.Reads as reads
-use Rattle.rows.proofs.unstable.unstable_step.Lts as lts
-use Rattle.rows.proofs.unstable.unstable_sides.Reads as unstable-sides-reads
-use Rattle.tables.proofs.fetch.Reads as fetch-reads
-use Rattle.tables.proofs.records.wide.Reads as wide-reads
 
 wide-requires : tie.Need-wide-requires
 wide-requires c κs = search needs

@@ -7,9 +7,6 @@ use Rattle.rows.specs.Literals.{at}
 use borrow.Author.Needs.{needs}
 use Rattle.rows.proofs.unstable.with_sign.Statement.{statement}
 use Rattle.rows.proofs.unstable.with_sign.Tie as tie
-use Rattle.rows.proofs.unstable.with_sign.Reads as reads
-use Rattle.rows.proofs.unstable.with_sign.Lts as lts
-use Rattle.atomset.proofs.insert.Reads as insert-reads
 
 insert-requires : tie.Need-insert-requires
 insert-requires c κs = search needs

@@ -1,5 +1,4 @@
 -- `tables::index::slot` meets its contract. Assumes nothing.
-use native.Mathlib.Omega.{arith}
 use borrow.Author.Needs.{needs}
 use Rattle.tables.proofs.index.slot.Statement.{statement}
 use Rattle.tables.proofs.index.slot.Tie as tie
