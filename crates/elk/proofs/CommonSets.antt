@@ -3,13 +3,9 @@
 use mathlib.Core.Path.{_≡_, refl, sym, subst}
 use mathlib.Core.List.{List, [], _∷_, _++_, List·Memᴰ·not-nil, List·Memᴰ·head, List·Memᴰ·tail, List·Memᴰ·cases-cons, List·Memᴰ·append-cases, Memᴰ·append-left, Memᴰ·append-right}
 use mathlib.Core.Logic.{⊎-elim, _↔_}
-use Rattle.equilibrium.specs.Meaning.{_∈_, _⊆_, _≈_}
+use Rattle.equilibrium.specs.Meaning.{_∈_, _≈_}
 use Rattle.equilibrium.proofs.Sets.{dec-not, dec-and, dec-implies, dec-in, dec-part, dec-all, those, in-those}
-
--- a side, and what is to be added to the common set to give it
-pub record Side (X : Type 0) : Type 0 where
-  pub whole : List X
-  pub added : List X
+use Rattle.elk.specs.CommonSets.{Side, Passes, Shared}
 
 module _ {X : Type 0} where
   -- L with what is added is the side
@@ -19,14 +15,6 @@ module _ {X : Type 0} where
   -- L does so for each side
   abbrev pub Common : List (Side X) → List X → Type 0
   Common sides L = (s : Side X) → s ∈ sides → Completes L s
-
-  -- what the one side has besides the added is in the other
-  abbrev pub Passes : Side X → Side X → Type 0
-  Passes s t = (x : X) → x ∈ s .whole → (x ∈ s .added → ⊥) → x ∈ t .whole
-
-  -- each side holds what is added, and what a side has besides is in all
-  abbrev pub Shared : List (Side X) → Type 0
-  Shared sides = (s : Side X) → s ∈ sides → (s .added ⊆ s .whole) × ((t : Side X) → t ∈ sides → Passes s t)
 
   -- what every member has, the first and the rest have
   pub every-cons : {P : X → Type 0} {x : X} {xs : List X} → ((y : X) → y ∈ x ∷ xs → P y) ↔ (P x × ((y : X) → y ∈ xs → P y))

@@ -12,8 +12,9 @@ use Rattle.equilibrium.proofs.Satisfaction.{occurs}
 use Rattle.elk.specs.Sequent.{Kind, elk, refutation, Sequent, _⇒_, _⨾_, Same, AllSame}
 use Rattle.elk.specs.Rules.{Fits, Part, Added, Schema}
 use Rattle.elk.specs.Instance.{meant, filled, SchemaInstance, DefaultInstance, CutInstance, InitialInstance, LeftLiteral, RightLiteral, UnstableInstance, Choice, domain, chosen, literal, fixed, excluded-middle, joined, Rising}
+use Rattle.elk.specs.CommonSets.{Side, Shared, sides}
 use Rattle.elk.proofs.Equality.{formula-discrete}
-use Rattle.elk.proofs.CommonSets.{Side, Common, Shared, every-cons, common-iff}
+use Rattle.elk.proofs.CommonSets.{Common, every-cons, common-iff}
 use Rattle.elk.proofs.Parts.{fits-parts}
 
 -- as many rows as the rule has, each of its kind
@@ -22,12 +23,6 @@ Counted k [] [] = Unit {0}
 Counted k [] (d ∷ ds) = ⊥
 Counted k (s ∷ ss) [] = ⊥
 Counted k (s ∷ ss) (d ∷ ds) = (s .kind ≡ k) × Counted k ss ds
-
--- one side of each row, with what the rule adds there
-abbrev pub sides : (Sequent → List Formula) → (Added → List Formula) → List Sequent → List Added → List (Side Formula)
-sides side added [] ds = []
-sides side added (s ∷ ss) [] = []
-sides side added (s ∷ ss) (d ∷ ds) = record { whole = side s; added = added d } ∷ sides side added ss ds
 
 module _ (m : Part → Formula) where
   abbrev pub lefts : List Sequent → List Added → List (Side Formula)

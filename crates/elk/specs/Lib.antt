@@ -2,3 +2,4 @@ pub mod Sequent
 pub mod Rules
 pub mod Instance
 pub mod Derivation
+pub mod CommonSets

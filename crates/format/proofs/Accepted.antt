@@ -19,9 +19,11 @@ use Rattle.format.specs.Text.{Bytes, linesOf, sameList}
 use Rattle.format.specs.File.{Node, Row, Claim, File, sequentOf, decoded}
 use Rattle.format.specs.Tables.{Lent, tooShort, mostBytes}
 use Rattle.format.specs.Tests.{sameKind, lastIs}
-use Rattle.format.specs.Judged.{Outcome, next, refused, top, beginning, accepted, turnedDown, orNoClaim, finish, judged, ClaimFails}
+use Rattle.format.specs.Judged.{Outcome, next, refused, top, beginning, accepted, turnedDown, orNoClaim, finish, judged, Said, ClaimFails}
 use Rattle.format.proofs.Booleans.{and-true, same-list}
-use Rattle.format.proofs.Beginnings.{Good, run-good, good-start, derived, derived-snoc}
+use Rattle.format.specs.Good.{derived, Good}
+use Rattle.format.proofs.GoodBodies.{derived-snoc, good-derivation}
+use Rattle.format.proofs.Beginnings.{run-good, good-start}
 
 -- an accepted text: the file that its lines come to, and its claim
 pub record Accepted (text : Bytes) (line : ℕ) : Type 0 where
@@ -87,7 +89,7 @@ accepted-derives {text} a =
     record {
       last = sequentOf nodes (l .last);
       earlier = derived nodes (l .before);
-      derivation = subst Derivation (ap (derived nodes) (l .split) ∙ derived-snoc nodes (l .before) (l .last)) (g .derivation);
+      derivation = subst Derivation (ap (derived nodes) (l .split) ∙ derived-snoc nodes (l .before) (l .last)) (good-derivation (g .body));
       ends = record { kind = l .kind; left = decoded-same (l .left-side); right = decoded-same (l .right-side) };
     }
   where
@@ -124,4 +126,4 @@ accepted-holds t text line e bad = entails-not-fails (ends-in-sound (accepted-de
     same-claim = let k : _≡_ {A = Option Claim} (some (own .0)) (some (a .claim)) = sym (own .1) ∙ a .is-claim in cc
 
     fails : Fails (decoded nodes (a .claim .left)) (decoded nodes (a .claim .right))
-    fails = subst (λ (c : Claim). Fails (decoded nodes (c .left)) (decoded nodes (c .right))) same-claim (subst₃ (λ (ns : List Node) (l r : List ℕ). Fails (decoded ns l) (decoded ns r)) (g .nodes-read) (sym (own .2)) (sym (own .3)) (bad .fails))
+    fails = subst (λ (c : Claim). Fails (decoded nodes (c .left)) (decoded nodes (c .right))) same-claim (subst₃ (λ (ns : List Node) (l r : List ℕ). Fails (decoded ns l) (decoded ns r)) (ap (λ (s : Said). s .nodes) (g .said)) (sym (own .2)) (sym (own .3)) (bad .fails))

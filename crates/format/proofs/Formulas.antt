@@ -9,12 +9,12 @@ use lib.ListN.{length, take, drop, length-append, List·getD-append}
 use lib.Seq.{getD-at, split-at, length-take-le}
 use borrow.Author.Tests.{leb-false}
 use Rattle.equilibrium.specs.Meaning.{_∈_}
+use Rattle.format.proofs.GoodBodies.{Held, beforeNode, nodeAt}
 use Rattle.format.proofs.Booleans.{any-false}
 use Rattle.equilibrium.specs.Formula.{Formula, falsum, neg, conj, disj, imp}
 use Rattle.elk.proofs.Equality.{formula-discrete}
 use Rattle.format.specs.File.{Node, Body, formulaAt, formulaOf, formulasAfter, formulas, decodedAt}
 use Rattle.format.specs.Tests.{refersAhead, notEarlier, unknownFormula}
-use Rattle.format.specs.Held.{Held, beforeNode, nodeAt}
 
 after-append : (ts : List Formula) (ms ns : List Node) → formulasAfter ts (ms ++ ns) ≡ formulasAfter (formulasAfter ts ms) ns
 after-append ts [] ns = refl

@@ -2,6 +2,9 @@
 pub mod Booleans
 pub mod Fold
 pub mod Stepping
+pub mod Tested
+pub mod RowPasses
+pub mod GoodBodies
 pub mod Formulas
 pub mod Beginnings
 pub mod Accepted

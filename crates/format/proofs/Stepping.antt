@@ -11,7 +11,7 @@ use Rattle.format.specs.Text.{Bytes, onto, partsAt, lineFeed, linesOf, a
 use Rattle.format.specs.File.{Node, Row, File, noFile}
 use Rattle.format.specs.Line.{Line, atomLine, formulaLine, rowLine, claimLine, lineOf}
 use Rattle.format.specs.Tests.{Test, first, atomTests, formulaTests, rowTests, claimTests}
-use Rattle.format.specs.Judged.{Place, Outcome, next, refused, settled, orBadLine, stepRead, step, after, below, run, top, beginning, withAtom, withNode, withRow, withClaim, nameStart, Answer, turnedDown, orNoClaim, finish}
+use Rattle.format.specs.Judged.{Place, Outcome, next, refused, settled, orBadLine, stepRead, step, after, below, run, top, beginning, withAtom, withNode, withRow, withClaim, nameStart, Answer, turnedDown, orNoClaim, finish, runFrom, answerFrom}
 
 -- the first test that applies gives its number
 
@@ -103,13 +103,6 @@ lines-cons bs line rest e = ap allButLast e ∙ cut (partsAt lineFeed rest) (par
 pub lines-last : (bs : Bytes) → partsAt lineFeed bs ≡ bs ∷ [] → linesOf bs ≡ record { complete = []; rest = bs }
 unfolding linesOf
 lines-last bs e = ap allButLast e
-
--- what the lines from a place on come to, and the answer that they give
-abbrev pub runFrom : Place → Bytes → File → Outcome File
-runFrom p bs f = run step p (linesOf bs .complete) f
-
-abbrev pub answerFrom : Place → Bytes → File → Answer
-answerFrom p bs f = finish (runFrom p bs f) (linesOf bs .rest) (p .line + length (linesOf bs .complete))
 
 module _ (p : Place) (f : File) where
   pub run-line : (bs line rest : Bytes) → partsAt lineFeed bs ≡ line ∷ partsAt lineFeed rest → runFrom p bs f ≡ after (step f p line) (run step (below p line) (linesOf rest .complete))

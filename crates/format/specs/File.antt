@@ -52,6 +52,14 @@ pub record File : Type 0 where
 abbrev pub noBody : Body
 noBody = record { atoms = 0; nodes = []; rows = [] }
 
+-- one formula more
+abbrev pub addNode : Body → Node → Body
+addNode b node = record { atoms = b .atoms; nodes = b .nodes ++ node ∷ []; rows = b .rows }
+
+-- one row more
+abbrev pub addRow : Body → Row → Body
+addRow b r = record { atoms = b .atoms; nodes = b .nodes; rows = b .rows ++ r ∷ [] }
+
 abbrev pub noFile : File
 noFile = record { names = []; body = noBody; stage = in-atoms; claim = none }
 

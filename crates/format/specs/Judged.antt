@@ -9,7 +9,7 @@ use lib.Dec.{ltb}
 use lib.ListN.{length, getD}
 use Rattle.equilibrium.specs.Meaning.{_∈_, Fails}
 use Rattle.format.specs.Text.{Bytes, linesOf, fieldsOf}
-use Rattle.format.specs.File.{Node, Row, Claim, Body, in-atoms, in-formulas, in-rows, claimed, File, noFile, decoded}
+use Rattle.format.specs.File.{Node, Row, Claim, Body, in-atoms, in-formulas, in-rows, claimed, File, addNode, addRow, noFile, decoded}
 use Rattle.format.specs.Line.{Line, atomLine, formulaLine, rowLine, claimLine, lineOf}
 use Rattle.format.specs.Tables.{Lent, tooShort, Contents, encode, mostBytes}
 use Rattle.format.specs.Tests.{first, atomTests, formulaTests, rowTests, claimTests}
@@ -43,11 +43,7 @@ withAtom f start name =
     }
 
 abbrev pub withNode : File → Node → File
-withNode f node =
-    record { names = f .names; body = record { atoms = f .body .atoms; nodes = f .body .nodes ++ node ∷ []; rows = f .body .rows }; stage = in-formulas; claim = f .claim }
-
-abbrev pub addRow : Body → Row → Body
-addRow b r = record { atoms = b .atoms; nodes = b .nodes; rows = b .rows ++ r ∷ [] }
+withNode f node = record { names = f .names; body = addNode (f .body) node; stage = in-formulas; claim = f .claim }
 
 abbrev pub withRow : File → Row → File
 withRow f r = record { names = f .names; body = addRow (f .body) r; stage = in-rows; claim = f .claim }
@@ -112,6 +108,13 @@ finish (refused n k) rest l = turnedDown n k
 finish (next f) [] l = orNoClaim (f .claim) l
 finish (next f) (b ∷ bs) l = turnedDown 3 l
 
+-- what the lines from a place on come to, and the answer that they give
+abbrev pub runFrom : Place → Bytes → File → Outcome File
+runFrom p bs f = run step p (linesOf bs .complete) f
+
+abbrev pub answerFrom : Place → Bytes → File → Answer
+answerFrom p bs f = finish (runFrom p bs f) (linesOf bs .rest) (p .line + length (linesOf bs .complete))
+
 -- the answer to a text, with tables of these lengths lent
 unfoldable pub judged : Lent → Bytes → Answer
 judged t text =
@@ -129,17 +132,29 @@ contents t text = heldBy (judged t text) (beginning text)
 
 -- the text's claim, read off its own lines with no regard to the judgement
 
-abbrev pub addNode : Option Line → List Node → List Node
-addNode none ns = ns
-addNode (some (atomLine n name)) ns = ns
-addNode (some (formulaLine n node)) ns = node ∷ ns
-addNode (some (rowLine n r)) ns = ns
-addNode (some (claimLine left right)) ns = ns
+-- what lines have said so far: the names of atoms, and the formulas, each in its order
+pub record Said : Type 0 where
+  pub names : List Bytes
+  pub nodes : List Node
 
--- the formulas of the F lines
-abbrev pub nodesIn : List Bytes → List Node
-nodesIn [] = []
-nodesIn (l ∷ ls) = addNode (lineOf l) (nodesIn ls)
+abbrev pub saying : Said → Option Line → Said
+saying s none = s
+saying s (some (atomLine n name)) = record { names = s .names ++ name ∷ []; nodes = s .nodes }
+saying s (some (formulaLine n node)) = record { names = s .names; nodes = s .nodes ++ node ∷ [] }
+saying s (some (rowLine n r)) = s
+saying s (some (claimLine left right)) = s
+
+abbrev pub saidAfter : Said → List Bytes → Said
+saidAfter s [] = s
+saidAfter s (l ∷ ls) = saidAfter (saying s (lineOf l)) ls
+
+-- what lines say from the first on
+abbrev pub saidBy : List Bytes → Said
+saidBy lines = saidAfter (record { names = []; nodes = [] }) lines
+
+-- the formulas of a text's F lines
+abbrev pub nodesIn : Bytes → List Node
+nodesIn text = saidBy (linesOf text .complete) .nodes
 
 -- some C line of the text claims a sequent that fails
 pub record ClaimFails (text : Bytes) : Type 0 where
@@ -148,4 +163,4 @@ pub record ClaimFails (text : Bytes) : Type 0 where
   pub right : List ℕ
   pub in-text : line ∈ linesOf text .complete
   pub is-claim : lineOf line ≡ some (claimLine left right)
-  pub fails : Fails (decoded (nodesIn (linesOf text .complete)) left) (decoded (nodesIn (linesOf text .complete)) right)
+  pub fails : Fails (decoded (nodesIn text) left) (decoded (nodesIn text) right)

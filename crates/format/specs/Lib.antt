@@ -4,4 +4,5 @@ pub mod Line
 pub mod Tables
 pub mod Tests
 pub mod Judged
-pub mod Held
+pub mod Good
+pub mod Passing

@@ -61,7 +61,7 @@ atomTests f n name =
     ∷ (6 when not (isName name) || any (λ m. sameList (m .name) name) (f .names))
     ∷ []
 
--- F
+-- F. Its tests but 4 are by the body alone.
 
 abbrev pub refersAhead : Body → Node → Bool
 refersAhead b Node.bot = false
@@ -75,15 +75,17 @@ refersAhead b (Node.imp i j) = unknownFormula b (i ∷ j ∷ [])
 abbrev pub sameNode : Node → Node → Bool
 sameNode m n = sameList (nodeRecord m) (nodeRecord n)
 
-abbrev pub formulaTests : File → ℕ → Node → List Test
-formulaTests f n node =
-    (4 when outOfOrder (f .stage) in-formulas (length (f .body .nodes)) n)
-    ∷ (5 when leb mostFormulas (length (f .body .nodes)))
-    ∷ (7 when refersAhead (f .body) node)
-    ∷ (8 when any (λ m. sameNode m node) (f .body .nodes))
+abbrev pub nodeTests : Body → Node → List Test
+nodeTests b node =
+    (5 when leb mostFormulas (length (b .nodes)))
+    ∷ (7 when refersAhead b node)
+    ∷ (8 when any (λ m. sameNode m node) (b .nodes))
     ∷ []
 
--- N. Its tests but 4 are by the body alone.
+abbrev pub formulaTests : File → ℕ → Node → List Test
+formulaTests f n node = (4 when outOfOrder (f .stage) in-formulas (length (f .body .nodes)) n) ∷ nodeTests (f .body) node
+
+-- N, in the same way
 
 -- a pool with so many entries has no room for these
 abbrev pub passed : List ℕ → List ℕ → Bool

@@ -13,7 +13,8 @@ use Rattle.equilibrium.specs.Meaning.{_∈_}
 use Rattle.elk.specs.Sequent.{Kind, elk}
 use Rattle.elk.specs.Rules.{entry, cut, kindOf, hasPrincipal, premiseKinds}
 use Rattle.elk.specs.Instance.{CutInstance}
-use Rattle.elk.proofs.CommonSets.{Side, Passes, Shared, every-cons}
+use Rattle.elk.specs.CommonSets.{Side, Passes, Shared}
+use Rattle.elk.proofs.CommonSets.{every-cons}
 use Rattle.elk.proofs.Entries.{CutTest, cut-iff}
 use Rattle.format.specs.Text.{_<$>_, strictlyRising}
 use Rattle.format.specs.File.{Row, Body, decodedAt, decoded, sequentOf}

@@ -7,7 +7,7 @@ use mathlib.Core.Logic.{_↔_}
 use mathlib.Core.Path.{_≡_, sym, ap, subst, _∙_}
 use borrow.Author.Tests.{ne-eqb}
 use Rattle.equilibrium.specs.Meaning.{_⊆_}
-use Rattle.elk.proofs.CommonSets.{Shared}
+use Rattle.elk.specs.CommonSets.{Shared}
 use Rattle.tables.specs.Members.{member, coveredBy}
 use Rattle.tables.proofs.Sets.{member-iff, covered-iff}
 use Rattle.rows.specs.Cut.{CutSides}

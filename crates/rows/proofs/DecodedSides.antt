@@ -7,7 +7,7 @@ use mathlib.Core.Logic.{⊎-elim, _↔_}
 use mathlib.Core.Path.{_≡_, sym, subst}
 use Rattle.equilibrium.specs.Formula.{Formula}
 use Rattle.equilibrium.specs.Meaning.{_∈_, _⊆_}
-use Rattle.elk.proofs.CommonSets.{Side, Shared}
+use Rattle.elk.specs.CommonSets.{Side, Shared}
 use Rattle.format.specs.File.{Body, decodedAt, decoded}
 use Rattle.format.specs.Tests.{unknownFormula}
 use Rattle.format.specs.Held.{Held}

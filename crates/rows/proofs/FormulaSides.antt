@@ -10,7 +10,8 @@ use borrow.Author.Tests.{eq-eqb, ne-eqb}
 use lib.ListN.{length}
 use Rattle.equilibrium.specs.Formula.{Formula}
 use Rattle.equilibrium.specs.Meaning.{_∈_, _⊆_}
-use Rattle.elk.proofs.CommonSets.{Side, Passes, Shared, every-cons}
+use Rattle.elk.specs.CommonSets.{Side, Passes, Shared}
+use Rattle.elk.proofs.CommonSets.{every-cons}
 use Rattle.format.specs.File.{Body, decodedAt, decoded}
 use Rattle.format.specs.Tests.{unknownFormula}
 use Rattle.format.specs.Held.{Held}

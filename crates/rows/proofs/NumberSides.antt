@@ -10,7 +10,8 @@ use borrow.Author.Tests.{eqb-true, eqb-false}
 use lib.Dec.{eqb}
 use lib.ListN.{getD}
 use Rattle.equilibrium.specs.Meaning.{_∈_, _⊆_}
-use Rattle.elk.proofs.CommonSets.{Side, Passes, Shared, every-cons}
+use Rattle.elk.specs.CommonSets.{Side, Passes, Shared}
+use Rattle.elk.proofs.CommonSets.{every-cons}
 use Rattle.tables.specs.Members.{coveredBy}
 use Rattle.tables.proofs.Sets.{covered-iff}
 use Rattle.rows.specs.Numbers.{noNumber, some?, numbersOf, numberSide}

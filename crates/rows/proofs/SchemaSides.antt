@@ -13,7 +13,8 @@ use Rattle.equilibrium.specs.Meaning.{_⊆_}
 use Rattle.elk.specs.Sequent.{Kind, Sequent}
 use Rattle.elk.specs.Rules.{Rule, Part, Added, Schema, Entry, schema, entry, Fits, kindOf, premiseKinds}
 use Rattle.elk.specs.Instance.{SchemaInstance}
-use Rattle.elk.proofs.CommonSets.{Side, Shared, every-cons}
+use Rattle.elk.specs.CommonSets.{Side, Shared}
+use Rattle.elk.proofs.CommonSets.{every-cons}
 use Rattle.elk.proofs.Entries.{Counted, SchemaTest, schema-iff}
 use Rattle.format.specs.Text.{strictlyRising, _<$>_}
 use Rattle.format.specs.File.{Row, Body, decodedAt, decoded, sequentOf}

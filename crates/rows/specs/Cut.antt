@@ -4,7 +4,7 @@ use mathlib.Core.List.{List, [], _∷_, _++_}
 use mathlib.Core.Path.{_≡_}
 use lib.ListN.{length, getD}
 use Rattle.equilibrium.specs.Meaning.{_∈_, _⊆_}
-use Rattle.elk.proofs.CommonSets.{Shared}
+use Rattle.elk.specs.CommonSets.{Shared}
 
 -- from `at` to the place r the numbers are below x, and the one at r is not
 pub record Skips (side : List ℕ) (at x r : ℕ) : Type 0 where

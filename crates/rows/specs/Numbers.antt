@@ -9,7 +9,7 @@ use lib.ListN.{length, getD}
 use Rattle.equilibrium.specs.Formula.{Formula}
 use Rattle.equilibrium.specs.Meaning.{_∈_}
 use Rattle.elk.specs.Rules.{Rule, Part, entry}
-use Rattle.elk.proofs.CommonSets.{Side}
+use Rattle.elk.specs.CommonSets.{Side}
 use Rattle.format.specs.File.{Body, decodedAt, decoded}
 use Rattle.rows.specs.RuleTable.{addedSides}
 use Rattle.rows.specs.declared.numbers.Numbers.{Numbers}

@@ -6,8 +6,7 @@ use mathlib.Core.List.{List, map}
 use Rattle.equilibrium.specs.Formula.{Formula}
 use Rattle.elk.specs.Sequent.{Sequent}
 use Rattle.elk.specs.Rules.{Part, Added, Schema, schema, entry}
-use Rattle.elk.proofs.CommonSets.{Side}
-use Rattle.elk.proofs.Entries.{sides}
+use Rattle.elk.specs.CommonSets.{Side, sides}
 use Rattle.format.specs.File.{Row, Body}
 use Rattle.format.specs.Tests.{wrongPremises}
 use Rattle.rows.specs.Judgement.{Judging}

@@ -3,7 +3,7 @@ ghost use mathlib.Core.Path.{_≡_};
 ghost use mathlib.Core.Bool.{true};
 ghost use mathlib.Core.List.{[], _∷_};
 ghost use Rattle.equilibrium.specs.Meaning.{_∈_, _⊆_};
-ghost use Rattle.elk.proofs.CommonSets.{Shared};
+ghost use Rattle.elk.specs.CommonSets.{Shared};
 ghost use Rattle.format.specs.Text.{strictlyRising};
 ghost use Rattle.rows.specs.Numbers.{noNumber, Decides, numbersOf, numberSide};
 use crate::numbers::NO_NUMBER;

@@ -4,7 +4,7 @@ ghost use Prim.Native.Nat.{_<_};
 ghost use mathlib.Core.Bool.{false, true};
 ghost use mathlib.Core.List.{[], _∷_};
 ghost use Rattle.elk.specs.Rules.{entry, Schema, schema};
-ghost use Rattle.elk.proofs.CommonSets.{Shared};
+ghost use Rattle.elk.specs.CommonSets.{Shared};
 ghost use Rattle.format.specs.Text.{strictlyRising};
 ghost use Rattle.format.specs.File.{Row, Body, sequentOf};
 ghost use Rattle.format.specs.Tests.{wrongPremises, premisesOf};

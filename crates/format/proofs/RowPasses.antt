@@ -1,0 +1,98 @@
+-- A row passes the tests of its rule, numbers 10 and 11, exactly when it is an instance of the rule with its premises; and
+-- number 10 alone is for rows whose principal formula or premises are not of the rule's kinds.
+use Prim.Native.Nat.{ℕ}
+use mathlib.Core.Path.{_≡_, refl, sym, _∙_, ap, ap₂, subst}
+use mathlib.Core.Bool.{Bool, true, false, cond, not, _&&_, _||_, true≢false, false≢true}
+use mathlib.Core.List.{List, [], _∷_, map}
+use mathlib.Core.Option.{Option, none, some, IsSome}
+use mathlib.Core.Logic.{_↔_}
+use lib.Dec.{T}
+use Rattle.equilibrium.specs.Formula.{Formula}
+use Rattle.elk.specs.Sequent.{Kind, elk, refutation, Sequent}
+use Rattle.elk.specs.Rules.{entry, hasPrincipal, premiseKinds}
+use Rattle.elk.proofs.Decision.{instance?}
+use Rattle.elk.proofs.Faithful.{instance-shaped}
+use Rattle.format.specs.Text.{_<$>_}
+use Rattle.format.specs.File.{Row, Body, decodedAt, sequentOf}
+use Rattle.format.specs.Tests.{sameKind, sameKinds, present, sameTruth, premisesOf, wrongPremises, isNo, wrongStep, ruleTests}
+use Rattle.format.specs.Passing.{RowInstance, PassesExactly, RightPremises, TenExactly}
+use Rattle.format.proofs.Booleans.{or-false, and-true, not-false}
+use Rattle.format.proofs.Tested.{passes}
+
+-- the comparisons of kinds and truths are exact
+
+kind-same : (j k : Kind) → (sameKind j k ≡ true) ↔ (j ≡ k)
+kind-same elk elk = (λ e. refl, λ e. refl)
+kind-same elk refutation = (λ e. absurd (false≢true e), λ e. ap (λ (k : Kind). sameKind elk k) (sym e))
+kind-same refutation elk = (λ e. absurd (false≢true e), λ e. ap (λ (k : Kind). sameKind refutation k) (sym e))
+kind-same refutation refutation = (λ e. refl, λ e. refl)
+
+kinds-same : (js ks : List Kind) → sameKinds js ks ≡ true → js ≡ ks
+kinds-same [] [] e = refl
+kinds-same [] (k ∷ ks) e = absurd (false≢true e)
+kinds-same (j ∷ js) [] e = absurd (false≢true e)
+kinds-same (j ∷ js) (k ∷ ks) e = let both = and-true (sameKind j k) (sameKinds js ks) e in ap₂ (λ (x : Kind) (xs : List Kind). x ∷ xs) (kind-same j k .0 (both .0)) (kinds-same js ks (both .1))
+
+same-kinds : (ks : List Kind) → sameKinds ks ks ≡ true
+same-kinds [] = refl
+same-kinds (k ∷ ks) = ap₂ _&&_ (kind-same k k .1 refl) (same-kinds ks)
+
+truth-same : (a b : Bool) → sameTruth a b ≡ true → a ≡ b
+truth-same true b e = sym e
+truth-same false true e = absurd (false≢true e)
+truth-same false false e = refl
+
+same-truth : (a : Bool) → sameTruth a a ≡ true
+same-truth true = refl
+same-truth false = refl
+
+-- what number 10 asks
+
+pub ten-exactly : (b : Body) (r : Row) → TenExactly b r
+unfolding wrongPremises
+ten-exactly b r = (λ e. let both = or-false _ _ e in record { principal = truth-same _ _ (not-false _ (both .0)); premises = kinds-same _ _ (not-false _ (both .1)) }, right)
+  where
+    kinds : List Kind
+    kinds = map (λ (s : Sequent). s .kind) (premisesOf b r)
+
+    right : RightPremises b r → not (sameTruth (present (r .principal)) (hasPrincipal (entry (r .rule)))) || not (sameKinds kinds (premiseKinds (entry (r .rule)))) ≡ false
+    right p =
+        ap₂ (λ (t u : Bool). not t || not u)
+        (subst (λ (t : Bool). sameTruth (present (r .principal)) t ≡ true) (p .principal) (same-truth (present (r .principal))))
+        (subst (λ (ks : List Kind). sameKinds kinds ks ≡ true) (p .premises) (same-kinds kinds))
+
+-- whether a row is an instance is decided by the test of number 11
+
+pub instance-of : (b : Body) (r : Row) → wrongStep b r ≡ false → RowInstance b r
+unfolding wrongStep
+instance-of b r e = cases (instance? (r .rule) (decodedAt (b .nodes) <$> r .principal) (premisesOf b r) (sequentOf (b .nodes) r)) e
+  where
+    cases : {X : Type 0} (d : Dec X) → isNo d ≡ false → X
+    cases (yes x) k = x
+    cases (no n) k = absurd (true≢false k)
+
+step-of : (b : Body) (r : Row) → RowInstance b r → wrongStep b r ≡ false
+unfolding wrongStep
+step-of b r i = cases (instance? (r .rule) (decodedAt (b .nodes) <$> r .principal) (premisesOf b r) (sequentOf (b .nodes) r)) i
+  where
+    cases : {X : Type 0} (d : Dec X) → X → isNo d ≡ false
+    cases (yes x) y = refl
+    cases (no n) y = absurd (n y)
+
+-- an instance has the principal formula and the premises that its rule asks for
+instance-right : (b : Body) (r : Row) → RowInstance b r → RightPremises b r
+instance-right b r i =
+    let shape = instance-shaped (entry (r .rule)) (decodedAt (b .nodes) <$> r .principal) i in
+    record { principal = named (r .principal) (hasPrincipal (entry (r .rule))) (shape .principal); premises = shape .above }
+  where
+    named : (p : Option ℕ) (t : Bool) → T t ↔ IsSome (decodedAt (b .nodes) <$> p) → present p ≡ t
+    named none true h = absurd (h .0 tt)
+    named none false h = refl
+    named (some i) true h = refl
+    named (some i) false h = absurd (h .1 tt)
+
+pub row-passes-exactly : (b : Body) (r : Row) → PassesExactly b r
+row-passes-exactly b r = (
+  λ e. instance-of b r (passes 11 (ruleTests b r) e),
+  λ i. ap₂ (λ (t u : Bool). cond t (some 10) (cond u (some 11) none)) (ten-exactly b r .1 (instance-right b r i)) (step-of b r i),
+)

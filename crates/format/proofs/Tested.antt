@@ -1,0 +1,91 @@
+-- What it says of a list of tests that none applies, test by test under its number.
+use Prim.Native.Nat.{ℕ, _+_, _≤_, _<_}
+use native.Mathlib.Omega.{arith}
+use mathlib.Core.Path.{_≡_, refl, ap}
+use mathlib.Core.Bool.{Bool, true, false, not, cond, _||_}
+use mathlib.Core.List.{List, [], _∷_}
+use mathlib.Core.Option.{Option, none, some}
+use lib.Dec.{eqb, leb}
+use lib.ListN.{length}
+use borrow.Author.Tests.{leb-true, ltb-true, leb-false, ltb-false}
+use Rattle.format.specs.Text.{any}
+use Rattle.format.specs.File.{Row, Body, Stage}
+use Rattle.format.specs.Tables.{leftPool, rightPool, mostRows, mostEntries}
+use Rattle.format.specs.Tests.{
+  Test,
+  first,
+  rank,
+  mayFollow,
+  outOfOrder,
+  notEarlier,
+  unknownFormula,
+  listed,
+  badSide,
+  passed,
+  bodyTests,
+}
+use Rattle.format.proofs.Booleans.{or-false, or-false₄, and-true, not-false}
+
+-- whether the test under a number applies; no list has two of one number
+abbrev pub under : ℕ → List Test → Bool
+under n [] = false
+under n (t ∷ ts) = cond (eqb n (t .number)) (t .applies) (under n ts)
+
+pub passes : (n : ℕ) (ts : List Test) → first ts ≡ none → under n ts ≡ false
+passes n [] e = refl
+passes n (t ∷ ts) e = cases (t .applies) (eqb n (t .number)) e (passes n ts)
+  where
+    cases : (a here : Bool) → cond a (some (t .number)) (first ts) ≡ none → (first ts ≡ none → under n ts ≡ false) → cond here a (under n ts) ≡ false
+    cases true here k rest = let z : _≡_ {A = ℕ} 0 1 = cc in absurd (omega arith)
+    cases false true k rest = refl
+    cases false false k rest = rest k
+
+-- the stage that a line follows
+pub follows : (s t : Stage) → mayFollow s t ≡ true → (rank s ≤ rank t) × (rank s < 3)
+follows s t e = let parts = and-true (leb (rank s) (rank t)) _ e in (leb-true _ _ (parts .0), ltb-true _ _ (parts .1))
+
+pub in-order : (s t : Stage) (held n : ℕ) → outOfOrder s t held n ≡ false → (rank s ≤ rank t) × (rank s < 3)
+in-order s t held n e = follows s t (not-false _ (or-false (not (mayFollow s t)) _ e .0))
+
+-- a row that passes the tests over a body
+pub record PassedRow (b : Body) (r : Row) : Type 0 where
+  pub rows-room : length (b .rows) < mostRows
+  pub left-room : length (leftPool (b .rows)) + length (r .left) ≤ mostEntries
+  pub right-room : length (rightPool (b .rows)) + length (r .right) ≤ mostEntries
+  pub principal-known : unknownFormula b (listed (r .principal)) ≡ false
+  pub premises-earlier : any (notEarlier (length (b .rows))) (r .premises) ≡ false
+  pub left-known : unknownFormula b (r .left) ≡ false
+  pub right-known : unknownFormula b (r .right) ≡ false
+  pub left-good : badSide (r .left) ≡ false
+  pub right-good : badSide (r .right) ≡ false
+
+pub passed-row : (b : Body) (r : Row) → first (bodyTests b r) ≡ none → PassedRow b r
+passed-row b r e =
+    record {
+      rows-room = leb-false _ _ (one .0);
+      left-room = ltb-false _ _ (one .1);
+      right-room = ltb-false _ _ (both .1);
+      principal-known = known .0;
+      premises-earlier = known .1;
+      left-known = known .2;
+      right-known = known .3;
+      left-good = sides .0;
+      right-good = sides .1;
+    }
+  where
+    full : Bool
+    full = leb mostRows (length (b .rows))
+
+    both : (full || passed (leftPool (b .rows)) (r .left) ≡ false) × (passed (rightPool (b .rows)) (r .right) ≡ false)
+    both = or-false _ _ (passes 5 (bodyTests b r) e)
+
+    one : (full ≡ false) × (passed (leftPool (b .rows)) (r .left) ≡ false)
+    one = or-false _ _ (both .0)
+
+    known :
+        (unknownFormula b (listed (r .principal)) ≡ false) × (any (notEarlier (length (b .rows))) (r .premises) ≡ false)
+        × (unknownFormula b (r .left) ≡ false) × (unknownFormula b (r .right) ≡ false)
+    known = or-false₄ _ _ _ _ (passes 7 (bodyTests b r) e)
+
+    sides : (badSide (r .left) ≡ false) × (badSide (r .right) ≡ false)
+    sides = or-false _ _ (passes 9 (bodyTests b r) e)

@@ -1,0 +1,29 @@
+-- What it is for a row to pass its rule (paper 01, numbers 10 and 11), in the calculus' own terms.
+use mathlib.Core.Path.{_≡_}
+use mathlib.Core.List.{List, map}
+use mathlib.Core.Logic.{_↔_}
+use mathlib.Core.Option.{none}
+use mathlib.Core.Bool.{false}
+use Rattle.elk.specs.Sequent.{Sequent}
+use Rattle.elk.specs.Rules.{entry, hasPrincipal, premiseKinds}
+use Rattle.elk.specs.Instance.{Instance}
+use Rattle.format.specs.Text.{_<$>_}
+use Rattle.format.specs.File.{Row, Body, decodedAt, sequentOf}
+use Rattle.format.specs.Tests.{first, present, premisesOf, wrongPremises, ruleTests}
+
+-- the row's two sides, taken as sets, make it an instance of the rule it names, with the premises it names
+abbrev pub RowInstance : Body → Row → Type 0
+RowInstance b r = Instance (r .rule) (decodedAt (b .nodes) <$> r .principal) (premisesOf b r) (sequentOf (b .nodes) r)
+
+-- a row passes the tests of its rule exactly when it is an instance: nothing looser, nothing stricter
+abbrev pub PassesExactly : Body → Row → Type 0
+PassesExactly b r = (first (ruleTests b r) ≡ none) ↔ RowInstance b r
+
+-- a principal formula is named where the rule has one and only there; the premises' kinds are the rule's, in their order
+pub record RightPremises (b : Body) (r : Row) : Type 0 where
+  pub principal : present (r .principal) ≡ hasPrincipal (entry (r .rule))
+  pub premises : map (λ (s : Sequent). s .kind) (premisesOf b r) ≡ premiseKinds (entry (r .rule))
+
+-- number 10 is for rows that lack these, and for no others
+abbrev pub TenExactly : Body → Row → Type 0
+TenExactly b r = (wrongPremises b r ≡ false) ↔ RightPremises b r
