@@ -1,13 +1,11 @@
 -- What acceptance shows: the rows of an accepted text, decoded, are a derivation that ends in its claim; so its claim
 -- does not fail.
-use Prim.Native.Nat.{ℕ, _+_}
+use Prim.Native.Nat.{ℕ}
 use native.Mathlib.Omega.{arith}
 use mathlib.Core.Path.{_≡_, refl, sym, ap, subst, subst₃, _∙_}
-use mathlib.Core.Bool.{Bool, true, false, cond, _&&_, false≢true}
+use mathlib.Core.Bool.{true, _&&_, false≢true}
 use mathlib.Core.List.{List, [], _∷_, _++_}
 use mathlib.Core.Option.{Option, none, some}
-use lib.Dec.{ltb}
-use lib.ListN.{length}
 use Rattle.equilibrium.specs.Meaning.{_≈_, Fails}
 use Rattle.equilibrium.proofs.Sets.{≈-refl}
 use Rattle.equilibrium.proofs.Models.{entails-not-fails}
@@ -16,10 +14,10 @@ use Rattle.elk.specs.Rules.{entry, kindOf}
 use Rattle.elk.specs.Derivation.{Derivation, EndsIn}
 use Rattle.elk.proofs.Soundness.{ends-in-sound}
 use Rattle.format.specs.Text.{Bytes, linesOf, sameList}
-use Rattle.format.specs.File.{Node, Row, Claim, File, sequentOf, decoded}
-use Rattle.format.specs.Tables.{Lent, tooShort, mostBytes}
-use Rattle.format.specs.Tests.{sameKind, lastIs}
-use Rattle.format.specs.Judged.{Outcome, next, refused, top, beginning, accepted, turnedDown, orNoClaim, finish, judged, Said, ClaimFails}
+use Rattle.format.specs.File.{Node, Row, Claim, File, noFile, sequentOf, decoded}
+use Rattle.format.specs.Tables.{Lent}
+use Rattle.format.specs.Tests.{first, sameKind, lastIs}
+use Rattle.format.specs.Judged.{Outcome, next, refused, top, beginning, accepted, turnedDown, orNoClaim, finish, answerFrom, wholeTests, orWhole, judged, Said, ClaimFails}
 use Rattle.format.proofs.Booleans.{and-true, same-list}
 use Rattle.format.specs.Good.{derived, Good}
 use Rattle.format.proofs.GoodBodies.{derived-snoc, good-derivation}
@@ -37,8 +35,8 @@ turned-down : {n k l : ℕ} → turnedDown n k ≡ accepted l → ⊥
 turned-down e = let z : _≡_ {A = ℕ} 0 1 = cc in omega arith
 
 pub accepted-file : (t : Lent) (text : Bytes) (line : ℕ) → judged t text ≡ accepted line → Accepted text line
-unfolding judged
-accepted-file t text line e = short (tooShort t) e
+unfolding judged beginning
+accepted-file t text line e = whole (first (wholeTests t text)) e
   where
     claim-of : (f : File) (o : Option Claim) (n : ℕ) → f .claim ≡ o → beginning text ≡ next f → orNoClaim o n ≡ accepted line → Accepted text line
     claim-of f none n q b k = absurd (turned-down k)
@@ -49,13 +47,9 @@ accepted-file t text line e = short (tooShort t) e
     finished (next f) [] n b q = claim-of f (f .claim) n refl b q
     finished (next f) (x ∷ xs) n b q = absurd (turned-down q)
 
-    long : (b : Bool) → cond b (turnedDown 2 0) (finish (beginning text) (linesOf text .rest) (length (linesOf text .complete) + 1)) ≡ accepted line → Accepted text line
-    long true k = absurd (turned-down k)
-    long false k = finished (beginning text) (linesOf text .rest) _ refl k
-
-    short : (b : Bool) → cond b (turnedDown 1 0) (cond (ltb mostBytes (length text)) (turnedDown 2 0) (finish (beginning text) (linesOf text .rest) (length (linesOf text .complete) + 1))) ≡ accepted line → Accepted text line
-    short true k = absurd (turned-down k)
-    short false k = long (ltb mostBytes (length text)) k
+    whole : (o : Option ℕ) → orWhole o (answerFrom top text noFile) ≡ accepted line → Accepted text line
+    whole none k = finished (beginning text) (linesOf text .rest) _ refl k
+    whole (some n) k = absurd (turned-down k)
 
 pub accepted-good : {text : Bytes} {line : ℕ} (a : Accepted text line) → Good (linesOf text .complete) (a .file)
 unfolding beginning

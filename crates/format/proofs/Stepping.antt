@@ -8,10 +8,10 @@ use mathlib.Core.Option.{Option, none, some}
 use lib.Dec.{eqb}
 use lib.ListN.{length}
 use Rattle.format.specs.Text.{Bytes, onto, partsAt, lineFeed, linesOf, allButLast, Lines}
-use Rattle.format.specs.File.{Node, Row, File, noFile}
+use Rattle.format.specs.File.{Node, Row, File}
 use Rattle.format.specs.Line.{Line, atomLine, formulaLine, rowLine, claimLine, lineOf}
 use Rattle.format.specs.Tests.{Test, first, atomTests, formulaTests, rowTests, claimTests}
-use Rattle.format.specs.Judged.{Place, Outcome, next, refused, settled, orBadLine, stepRead, step, after, below, run, top, beginning, withAtom, withNode, withRow, withClaim, nameStart, Answer, turnedDown, orNoClaim, finish, runFrom, answerFrom}
+use Rattle.format.specs.Judged.{Place, Outcome, next, refused, settled, orBadLine, stepRead, step, after, below, run, withAtom, withNode, withRow, withClaim, nameStart, Answer, turnedDown, orNoClaim, finish, runFrom, answerFrom}
 
 -- the first test that applies gives its number
 
@@ -139,8 +139,3 @@ module _ (p : Place) (f : File) where
   pub answer-end : answerFrom p [] f ≡ orNoClaim (f .claim) (p .line)
   unfolding run linesOf partsAt
   answer-end = ap (orNoClaim (f .claim)) (omega arith)
-
--- the answer to a text of a length that is read, in tables that are long enough
-pub answer-whole : (text : Bytes) → finish (beginning text) (linesOf text .rest) (length (linesOf text .complete) + 1) ≡ answerFrom top text noFile
-unfolding beginning
-answer-whole text = ap (finish (runFrom top text noFile) (linesOf text .rest)) (omega arith)

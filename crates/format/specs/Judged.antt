@@ -2,7 +2,6 @@
 -- turned down"), and the claim that the text makes.
 use Prim.Native.Nat.{ℕ, _+_}
 use mathlib.Core.Path.{_≡_}
-use mathlib.Core.Bool.{cond}
 use mathlib.Core.List.{List, [], _∷_, _++_}
 use mathlib.Core.Option.{Option, none, some}
 use lib.Dec.{ltb}
@@ -12,7 +11,7 @@ use Rattle.format.specs.Text.{Bytes, linesOf, fieldsOf}
 use Rattle.format.specs.File.{Node, Row, Claim, Body, in-atoms, in-formulas, in-rows, claimed, File, addNode, addRow, noFile, decoded}
 use Rattle.format.specs.Line.{Line, atomLine, formulaLine, rowLine, claimLine, lineOf}
 use Rattle.format.specs.Tables.{Lent, tooShort, Contents, encode, mostBytes}
-use Rattle.format.specs.Tests.{first, atomTests, formulaTests, rowTests, claimTests}
+use Rattle.format.specs.Tests.{Test, _when_, first, atomTests, formulaTests, rowTests, claimTests}
 
 -- where a line stands: its number from 1, and the byte of the text at which it starts
 pub record Place : Type 0 where
@@ -115,11 +114,17 @@ runFrom p bs f = run step p (linesOf bs .complete) f
 abbrev pub answerFrom : Place → Bytes → File → Answer
 answerFrom p bs f = finish (runFrom p bs f) (linesOf bs .rest) (p .line + length (linesOf bs .complete))
 
+-- what a text can be refused for as a whole, with line 0
+abbrev pub wholeTests : Lent → Bytes → List Test
+wholeTests t text = (1 when tooShort t) ∷ (2 when ltb mostBytes (length text)) ∷ []
+
+abbrev pub orWhole : Option ℕ → Answer → Answer
+orWhole none answer = answer
+orWhole (some n) answer = turnedDown n 0
+
 -- the answer to a text, with tables of these lengths lent
 unfoldable pub judged : Lent → Bytes → Answer
-judged t text =
-    cond (tooShort t) (turnedDown 1 0) (
-    cond (ltb mostBytes (length text)) (turnedDown 2 0) (finish (beginning text) (linesOf text .rest) (length (linesOf text .complete) + 1)))
+judged t text = orWhole (first (wholeTests t text)) (answerFrom top text noFile)
 
 abbrev pub heldBy : Answer → Outcome File → Contents
 heldBy (accepted l) (next f) = encode f

@@ -3,6 +3,8 @@ use Prim.Native.Nat.{ℕ}
 use mathlib.Core.Bool.{cond, _&&_}
 use mathlib.Core.List.{List, [], _∷_}
 use mathlib.Core.Option.{Option, none, some}
+use lib.Dec.{eqb}
+use lib.ListN.{length, getD}
 use Rattle.elk.specs.Rules.{Rule, rules, wordOf}
 use Rattle.format.specs.Text.{Bytes, fieldsOf, numberOf, sideOf, premisesOf, principalOf, is, _<$>_, _<*>_, onlyIf}
 use Rattle.format.specs.File.{Node, Row}
@@ -36,43 +38,45 @@ nodeOf word first second =
     cond (is "and" word) (binary Node.and first second) (
     cond (is "or" word) (binary Node.or first second) (cond (is "imp" word) (binary Node.imp first second) none)))))
 
+-- the fields after the kind, by their place
+abbrev pub fieldAt : List Bytes → ℕ → Bytes
+fieldAt fields i = getD fields i []
+
+-- a line that has exactly so many fields after its kind
+abbrev pub ofFields : ℕ → List Bytes → Option Line → Option Line
+ofFields count fields line = onlyIf (eqb (length fields) count) line
+
 -- number, name
 unfoldable pub atomFields : List Bytes → Option Line
-atomFields (number ∷ name ∷ []) = (λ n. atomLine n name) <$> numberOf number
-atomFields [] = none
-atomFields (number ∷ []) = none
-atomFields (number ∷ name ∷ f ∷ fs) = none
+atomFields fields = ofFields 2 fields ((λ n. atomLine n (fieldAt fields 1)) <$> numberOf (fieldAt fields 0))
 
 -- number, word, first, second
 unfoldable pub formulaFields : List Bytes → Option Line
-formulaFields (number ∷ word ∷ first ∷ second ∷ []) = (λ n node. formulaLine n node) <$> numberOf number <*> nodeOf word first second
-formulaFields [] = none
-formulaFields (number ∷ []) = none
-formulaFields (number ∷ word ∷ []) = none
-formulaFields (number ∷ word ∷ first ∷ []) = none
-formulaFields (number ∷ word ∷ first ∷ second ∷ f ∷ fs) = none
+formulaFields fields =
+    ofFields 4 fields ((λ n node. formulaLine n node) <$> numberOf (fieldAt fields 0) <*> nodeOf (fieldAt fields 1) (fieldAt fields 2) (fieldAt fields 3))
 
 abbrev pub makeRow : Rule → Option ℕ → List ℕ → List ℕ → List ℕ → Row
 makeRow rule principal premises left right = record { rule = rule; principal = principal; premises = premises; left = left; right = right }
 
--- number, rule, principal, premises, left, right
+-- rule, principal, premises, left, right
+abbrev pub rowOf : Bytes → Bytes → Bytes → Bytes → Bytes → Option Row
+rowOf word principal premises left right =
+    makeRow <$> ruleOf word <*> principalOf principal <*> premisesOf premises <*> sideOf left <*> sideOf right
+
+-- number, and the row
 unfoldable pub rowFields : List Bytes → Option Line
-rowFields (number ∷ word ∷ principal ∷ premises ∷ left ∷ right ∷ []) =
-    (λ n row. rowLine n row) <$> numberOf number <*> (makeRow <$> ruleOf word <*> principalOf principal <*> premisesOf premises <*> sideOf left <*> sideOf right)
-rowFields [] = none
-rowFields (number ∷ []) = none
-rowFields (number ∷ word ∷ []) = none
-rowFields (number ∷ word ∷ principal ∷ []) = none
-rowFields (number ∷ word ∷ principal ∷ premises ∷ []) = none
-rowFields (number ∷ word ∷ principal ∷ premises ∷ left ∷ []) = none
-rowFields (number ∷ word ∷ principal ∷ premises ∷ left ∷ right ∷ f ∷ fs) = none
+rowFields fields =
+    ofFields 6 fields (
+    (λ n row. rowLine n row) <$> numberOf (fieldAt fields 0)
+    <*> rowOf (fieldAt fields 1) (fieldAt fields 2) (fieldAt fields 3) (fieldAt fields 4) (fieldAt fields 5))
 
 -- left, right
 unfoldable pub claimFields : List Bytes → Option Line
-claimFields (left ∷ right ∷ []) = (λ l r. claimLine l r) <$> sideOf left <*> sideOf right
-claimFields [] = none
-claimFields (left ∷ []) = none
-claimFields (left ∷ right ∷ f ∷ fs) = none
+claimFields fields = ofFields 2 fields ((λ l r. claimLine l r) <$> sideOf (fieldAt fields 0) <*> sideOf (fieldAt fields 1))
+
+-- the most fields of a line: those of a row
+abbrev pub mostFields : ℕ
+mostFields = 7
 
 abbrev pub ofKind : List Bytes → Option Line
 ofKind [] = none

@@ -29,15 +29,15 @@ nodeRecord (Node.imp i j) = 5 ∷ i ∷ j ∷ []
 abbrev pub nameRecord : Name → List ℕ
 nameRecord n = n .start ∷ length (n .name) ∷ []
 
--- the count of numbers in the record of a row
+-- the count of numbers in the record of a name, of a formula and of a row
+abbrev pub nameWidth : ℕ
+nameWidth = 2
+
+abbrev pub nodeWidth : ℕ
+nodeWidth = 3
+
 abbrev pub rowWidth : ℕ
 rowWidth = 8
-
--- rule, principal, two premises, left start, left length, right start, right length
-abbrev pub rowRecord : ℕ → ℕ → Row → List ℕ
-rowRecord leftStart rightStart r =
-    codeOf (r .rule) ∷ orAbsent (r .principal) ∷ getD (r .premises) 0 absent ∷ getD (r .premises) 1 absent
-    ∷ leftStart ∷ length (r .left) ∷ rightStart ∷ length (r .right) ∷ []
 
 abbrev pub joinAll : {A : Type 0} → (A → List ℕ) → List A → List ℕ
 joinAll f [] = []
@@ -50,10 +50,19 @@ leftPool rows = joinAll (λ r. r .left) rows
 abbrev pub rightPool : List Row → List ℕ
 rightPool rows = joinAll (λ r. r .right) rows
 
--- the records of rows, where the pools hold so many entries before them
-abbrev pub rowRecords : ℕ → ℕ → List Row → List ℕ
-rowRecords leftStart rightStart [] = []
-rowRecords leftStart rightStart (r ∷ rs) = rowRecord leftStart rightStart r ++ rowRecords (leftStart + length (r .left)) (rightStart + length (r .right)) rs
+-- rule, principal, two premises, left start, left length, right start, right length, after the rows before it
+abbrev pub rowRecord : List Row → Row → List ℕ
+rowRecord earlier r =
+    codeOf (r .rule) ∷ orAbsent (r .principal) ∷ getD (r .premises) 0 absent ∷ getD (r .premises) 1 absent
+    ∷ length (leftPool earlier) ∷ length (r .left) ∷ length (rightPool earlier) ∷ length (r .right) ∷ []
+
+-- the records of rows that stand after others
+abbrev pub recordsAfter : List Row → List Row → List ℕ
+recordsAfter earlier [] = []
+recordsAfter earlier (r ∷ rs) = rowRecord earlier r ++ recordsAfter (earlier ++ r ∷ []) rs
+
+abbrev pub rowRecords : List Row → List ℕ
+rowRecords rows = recordsAfter [] rows
 
 pub record Contents : Type 0 where
   pub names : List ℕ
@@ -65,7 +74,7 @@ pub record Contents : Type 0 where
 -- the tables of a body; an open file has no names
 abbrev pub encodeBody : List ℕ → Body → Contents
 encodeBody names b =
-    record { names = names; formulas = joinAll nodeRecord (b .nodes); rows = rowRecords 0 0 (b .rows); left = leftPool (b .rows); right = rightPool (b .rows) }
+    record { names = names; formulas = joinAll nodeRecord (b .nodes); rows = rowRecords (b .rows); left = leftPool (b .rows); right = rightPool (b .rows) }
 
 abbrev pub encode : File → Contents
 encode f = encodeBody (joinAll nameRecord (f .names)) (f .body)
@@ -101,8 +110,21 @@ mostOnSide = 64
 abbrev pub mostBytes : ℕ
 mostBytes = 65536
 
+-- the least lengths of the lent tables: room for the most of each
+abbrev pub least : Lent
+least =
+    record {
+      names = nameWidth * mostAtoms;
+      formulas = nodeWidth * mostFormulas;
+      rows = rowWidth * mostRows;
+      left = mostEntries;
+      right = mostEntries;
+    }
+
 unfoldable pub tooShort : Lent → Bool
-tooShort t = ltb (t .names) (2 * mostAtoms) || ltb (t .formulas) (3 * mostFormulas) || ltb (t .rows) (rowWidth * mostRows) || ltb (t .left) mostEntries || ltb (t .right) mostEntries
+tooShort t =
+    ltb (t .names) (least .names) || ltb (t .formulas) (least .formulas) || ltb (t .rows) (least .rows)
+    || ltb (t .left) (least .left) || ltb (t .right) (least .right)
 
 -- the part of a table at a place, empty where it does not lie inside
 abbrev pub part : List ℕ → ℕ → ℕ → List ℕ
