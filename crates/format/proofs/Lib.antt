@@ -6,6 +6,7 @@ pub mod Tested
 pub mod RowPasses
 pub mod GoodBodies
 pub mod Formulas
+pub mod Decoded
 pub mod Beginnings
 pub mod Accepted
 pub mod Examples

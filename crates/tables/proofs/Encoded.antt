@@ -1,7 +1,7 @@
 -- Tables that hold a file: the records and sides of what it lists, and zeros after them. What is read, fetched or looked for
 -- there is what was listed, and what is put right after it is listed next. Assumes nothing.
 use Prim.Native.Nat.{ℕ, suc, _+_, _-_, _*_, _≤_, _<_}
-use native.Mathlib.Nat.{le-of-lt, add-zero, add-comm, mul-zero, mul-suc, zero-add, sub-zero}
+use native.Mathlib.Nat.{le-of-lt, add-comm, mul-zero, mul-suc}
 use native.Mathlib.Omega.{arith}
 use mathlib.Core.Bool.{Bool, cond, _&&_, _||_}
 use mathlib.Core.List.{List, [], _∷_, _++_, map, append-assoc, append-nil, List·Memᴰ·head, List·Memᴰ·tail}
@@ -12,14 +12,16 @@ use lib.Seq.{split-at, length-take-le, take-at, drop-at}
 use Rattle.equilibrium.specs.Meaning.{_∈_}
 use Rattle.format.specs.Text.{Bytes, any, sameList}
 use Rattle.format.specs.File.{Node, Row, Name}
-use Rattle.format.specs.Tables.{Side, fetched, part, rowAt, padded, joinAll, nodeRecord, nameRecord, rowWidth, rowRecord, rowRecords, leftPool, rightPool}
-use Rattle.tables.specs.Records.{onSide, nameWidth, nodeWidth, written, nodeAt, nodeOf}
+use Rattle.elk.specs.Rules.{codeOf}
+use Rattle.format.specs.Tables.{Side, fetched, part, rowAt, padded, joinAll, nodeRecord, nameRecord, nameWidth, nodeWidth, rowWidth, rowRecord, recordsAfter, rowRecords}
+use Rattle.tables.specs.Records.{onSide, written, nodeAt, nodeOf, rowOf}
+use Rattle.tables.specs.Holding.{Begins, HoldsNodes, HoldsRows}
 use Rattle.tables.specs.Lookups.{firstRecords, spelled, spelledBy, nameUsed, StandsIn, atomsOf, atomsByRecord, nodeAtoms}
 use Rattle.tables.proofs.Placed.{part-between, written-padded}
 
--- a table that holds nothing
-pub padded-none : (n : ℕ) → padded n [] ≡ replicate n 0
-padded-none n = ap (λ (k : ℕ). replicate k 0) (sub-zero n)
+-- a table with zeros after what it holds begins with it
+pub begins-padded : {held table : List ℕ} → table ≡ padded (length table) held → Begins held table
+begins-padded e = record { rest = _; whole = e }
 
 first-record : (width n : ℕ) (front rest : List ℕ) → length front ≡ width → firstRecords width (suc n) (front ++ rest) ≡ front ∷ firstRecords width n rest
 unfolding firstRecords
@@ -47,10 +49,10 @@ module _ {A : Type 0} (f : A → List ℕ) where
       ∙ ap (λ (l : List ℕ). l ++ rest) (joinAll-append (take i xs) (getD xs i d ∷ drop (suc i) xs))
       ∙ simp append-assoc
 
-  entry-encoded : (n : ℕ) (xs : List A) (i : ℕ) (d : A) → i < length xs
-      → part (padded n (joinAll f xs)) (length (joinAll f (take i xs))) (length (f (getD xs i d))) ≡ f (getD xs i d)
-  entry-encoded n xs i d h =
-      ap (λ (table : List ℕ). part table (length (joinAll f (take i xs))) (length (f (getD xs i d)))) (entry-at xs i d (replicate (n - length (joinAll f xs)) 0) h)
+  entry-held : {table : List ℕ} (xs : List A) → Begins (joinAll f xs) table → (i : ℕ) (d : A) → i < length xs
+      → part table (length (joinAll f (take i xs))) (length (f (getD xs i d))) ≡ f (getD xs i d)
+  entry-held xs b i d h =
+      ap (λ (t : List ℕ). part t (length (joinAll f (take i xs))) (length (f (getD xs i d)))) (b .whole ∙ entry-at xs i d (b .rest) h)
       ∙ part-between (joinAll f (take i xs)) (f (getD xs i d)) _ _ _ refl refl
 
   -- where each writes as many numbers
@@ -91,21 +93,24 @@ node-width (Node.imp i j) = refl
 pub nodes-length : (nodes : List Node) → length (joinAll nodeRecord nodes) ≡ nodeWidth * length nodes
 nodes-length = joined-length nodeRecord nodeWidth node-width
 
-module _ (n : ℕ) (nodes : List Node) where
-  pub node-encoded : (i : ℕ) (d : Node) → i < length nodes → nodeAt (padded n (joinAll nodeRecord nodes)) i ≡ nodeRecord (getD nodes i d)
-  node-encoded i d h = record-at nodeRecord nodeWidth node-width nodes i d (replicate (n - length (joinAll nodeRecord nodes)) 0) h
+-- record i of the formulas table is that of node i
+pub node-held : {nodes : List Node} {table : List ℕ} → HoldsNodes nodes table → (i : ℕ) (d : Node) → i < length nodes
+    → nodeAt table i ≡ nodeRecord (getD nodes i d)
+node-held {nodes} b i d h =
+    ap (λ (t : List ℕ). nodeAt t i) (b .records .whole) ∙ record-at nodeRecord nodeWidth node-width nodes i d (b .records .rest) h
 
-  pub atoms-encoded : (atoms : List ℕ) (i : ℕ) (d : Node) → i < length nodes → nodeAtoms (padded n (joinAll nodeRecord nodes)) atoms i ≡ atomsOf atoms (getD nodes i d)
-  unfolding atomsByRecord atomsOf
-  atoms-encoded atoms i d h = ap (λ (numbers : List ℕ). atomsByRecord atoms (nodeOf numbers)) (node-encoded i d h) ∙ by-node (getD nodes i d)
-    where
-      by-node : (m : Node) → atomsByRecord atoms (nodeOf (nodeRecord m)) ≡ atomsOf atoms m
-      by-node Node.bot = refl
-      by-node (Node.atom k) = refl
-      by-node (Node.not i) = refl
-      by-node (Node.and i j) = refl
-      by-node (Node.or i j) = refl
-      by-node (Node.imp i j) = refl
+pub atoms-held : {nodes : List Node} {table : List ℕ} → HoldsNodes nodes table → (atoms : List ℕ) (i : ℕ) (d : Node) → i < length nodes
+    → nodeAtoms table atoms i ≡ atomsOf atoms (getD nodes i d)
+unfolding atomsByRecord atomsOf
+atoms-held {nodes} b atoms i d h = ap (λ (numbers : List ℕ). atomsByRecord atoms (nodeOf numbers)) (node-held b i d h) ∙ by-node (getD nodes i d)
+  where
+    by-node : (m : Node) → atomsByRecord atoms (nodeOf (nodeRecord m)) ≡ atomsOf atoms m
+    by-node Node.bot = refl
+    by-node (Node.atom k) = refl
+    by-node (Node.not i) = refl
+    by-node (Node.and i j) = refl
+    by-node (Node.or i j) = refl
+    by-node (Node.imp i j) = refl
 
 -- names
 
@@ -129,62 +134,51 @@ used-encoded n text names name stands =
 
 -- rows
 
-rows-append : (leftStart rightStart : ℕ) (xs ys : List Row)
-    → rowRecords leftStart rightStart (xs ++ ys) ≡ rowRecords leftStart rightStart xs ++ rowRecords (leftStart + length (leftPool xs)) (rightStart + length (rightPool xs)) ys
-rows-append l r [] ys = ap₂ (λ (a b : ℕ). rowRecords a b ys) (sym (add-zero l)) (sym (add-zero r))
-rows-append l r (x ∷ xs) ys =
-    ap (λ (rest : List ℕ). rowRecord l r x ++ rest)
-    (rows-append (l + length (x .left)) (r + length (x .right)) xs ys
-    ∙ ap₂ (λ (a b : ℕ). rowRecords (l + length (x .left)) (r + length (x .right)) xs ++ rowRecords a b ys) (after l (x .left) (leftPool xs)) (after r (x .right) (rightPool xs)))
-  where
-    after : (start : ℕ) (a b : List ℕ) → start + length a + length b ≡ start + length (a ++ b)
-    after start a b = simp length-append (omega arith)
+records-append : (earlier xs ys : List Row) → recordsAfter earlier (xs ++ ys) ≡ recordsAfter earlier xs ++ recordsAfter (earlier ++ xs) ys
+records-append earlier [] ys = ap (λ (l : List Row). recordsAfter l ys) (sym (append-nil earlier))
+records-append earlier (x ∷ xs) ys =
+    ap (λ (rest : List ℕ). rowRecord earlier x ++ rest) (records-append (earlier ++ x ∷ []) xs ys)
+    ∙ sym (append-assoc (rowRecord earlier x) (recordsAfter (earlier ++ x ∷ []) xs) _)
+    ∙ ap (λ (l : List Row). recordsAfter earlier (x ∷ xs) ++ recordsAfter l ys) (append-assoc earlier (x ∷ []) xs)
 
-pub rows-length : (leftStart rightStart : ℕ) (rows : List Row) → length (rowRecords leftStart rightStart rows) ≡ rowWidth * length rows
-rows-length l r [] = refl
-rows-length l r (x ∷ xs) = omega (arith, rows-length (l + length (x .left)) (r + length (x .right)) xs)
+records-length : (earlier rows : List Row) → length (recordsAfter earlier rows) ≡ rowWidth * length rows
+records-length earlier [] = refl
+records-length earlier (x ∷ xs) = omega (arith, records-length (earlier ++ x ∷ []) xs)
 
-module _ (n : ℕ) (rows : List Row) where
-  -- the record of row i, whose sides lie after those of the rows before it
-  pub row-encoded : (i : ℕ) (d : Row) → i < length rows
-      → rowAt (padded n (rowRecords 0 0 rows)) i ≡ rowRecord (length (leftPool (take i rows))) (length (rightPool (take i rows))) (getD rows i d)
-  row-encoded i d h =
-      ap (λ (l : List Row). part (rowRecords 0 0 l ++ zeros) (rowWidth * i) rowWidth) (split-at rows i d h)
-      ∙ ap (λ (l : List ℕ). part (l ++ zeros) (rowWidth * i) rowWidth) (rows-append 0 0 (take i rows) (row ∷ more))
-      ∙ ap (λ (l : List ℕ). part l (rowWidth * i) rowWidth) (append-assoc (rowRecords 0 0 (take i rows)) (rowRecords lefts rights (row ∷ more)) zeros)
-      ∙ part-between (rowRecords 0 0 (take i rows)) (rowRecord lefts rights row) (rowRecords (lefts + length (row .left)) (rights + length (row .right)) more ++ zeros) (rowWidth * i) rowWidth
-      (rows-length 0 0 (take i rows) ∙ ap (λ (k : ℕ). rowWidth * k) (length-take-le i rows (le-of-lt h))) refl
-      ∙ ap₂ (λ (a b : ℕ). rowRecord a b row) (zero-add _) (zero-add _)
+pub rows-length : (rows : List Row) → length (rowRecords rows) ≡ rowWidth * length rows
+rows-length rows = records-length [] rows
+
+-- a row put after the others
+pub put-row-encoded : (n : ℕ) (rows : List Row) (r : Row) → rowWidth * length rows + rowWidth ≤ n
+    → written (padded n (rowRecords rows)) (rowWidth * length rows) (rowRecord rows r) ≡ padded n (rowRecords (rows ++ r ∷ []))
+put-row-encoded n rows r room =
+    written-padded n (rowRecords rows) (rowRecord rows r) (rowWidth * length rows) (rows-length rows) room
+    ∙ ap (padded n) (sym (records-append [] rows (r ∷ [])))
+
+module _ {rows : List Row} {table left right : List ℕ} (held : HoldsRows rows table left right) (i : ℕ) (d : Row) (h : i < length rows) where
+  -- record i of the rows table is that of row i, over the rows before it
+  pub row-held : rowAt table i ≡ rowRecord (take i rows) (getD rows i d)
+  row-held =
+      ap (λ (t : List ℕ). part t (rowWidth * i) rowWidth) (held .records .whole ∙ ap (λ (l : List ℕ). l ++ rest) split ∙ append-assoc (rowRecords (take i rows)) _ rest)
+      ∙ part-between (rowRecords (take i rows)) (rowRecord (take i rows) (getD rows i d)) (recordsAfter (take i rows ++ getD rows i d ∷ []) (drop (suc i) rows) ++ rest) (rowWidth * i) rowWidth
+      (rows-length (take i rows) ∙ ap (λ (k : ℕ). rowWidth * k) (length-take-le i rows (le-of-lt h))) refl
     where
-      zeros : List ℕ
-      zeros = replicate (n - length (rowRecords 0 0 rows)) 0
+      rest : List ℕ
+      rest = held .records .rest
 
-      row : Row
-      row = getD rows i d
+      split : rowRecords rows ≡ rowRecords (take i rows) ++ recordsAfter (take i rows) (getD rows i d ∷ drop (suc i) rows)
+      split = ap rowRecords (split-at rows i d h) ∙ records-append [] (take i rows) (getD rows i d ∷ drop (suc i) rows)
 
-      more : List Row
-      more = drop (suc i) rows
+  -- the rule of record i is the code of the row's rule
+  pub rule-held : rowOf (rowAt table i) .rule ≡ codeOf (getD rows i d .rule)
+  rule-held = ap (λ (t : List ℕ). rowOf t .rule) row-held
 
-      lefts : ℕ
-      lefts = 0 + length (leftPool (take i rows))
-
-      rights : ℕ
-      rights = 0 + length (rightPool (take i rows))
-
-  -- a row put after the others
-  pub put-row-encoded : (r : Row) → rowWidth * length rows + rowWidth ≤ n
-      → written (padded n (rowRecords 0 0 rows)) (rowWidth * length rows) (rowRecord (length (leftPool rows)) (length (rightPool rows)) r) ≡ padded n (rowRecords 0 0 (rows ++ r ∷ []))
-  put-row-encoded r room =
-      written-padded n (rowRecords 0 0 rows) (rowRecord (length (leftPool rows)) (length (rightPool rows)) r) (rowWidth * length rows) (rows-length 0 0 rows) room
-      ∙ ap (padded n) (sym (rows-append 0 0 rows (r ∷ []) ∙ ap₂ (λ (a b : ℕ). rowRecords 0 0 rows ++ rowRecords a b (r ∷ [])) (zero-add _) (zero-add _)))
-
--- what is fetched of row i is that side of it
-pub fetched-encoded : (n m k : ℕ) (rows : List Row) (side : Side) (i : ℕ) (d : Row) → i < length rows
-    → fetched (padded n (rowRecords 0 0 rows)) (padded m (leftPool rows)) (padded k (rightPool rows)) side i ≡ onSide side (getD rows i d)
-unfolding fetched
-fetched-encoded n m k rows Side.left i d h =
-    ap (λ (numbers : List ℕ). part (padded m (leftPool rows)) (getD numbers 4 0) (getD numbers 5 0)) (row-encoded n rows i d h)
-    ∙ entry-encoded (λ (r : Row). r .left) m rows i d h
-fetched-encoded n m k rows Side.right i d h =
-    ap (λ (numbers : List ℕ). part (padded k (rightPool rows)) (getD numbers 6 0) (getD numbers 7 0)) (row-encoded n rows i d h)
-    ∙ entry-encoded (λ (r : Row). r .right) k rows i d h
+  -- what is fetched of row i is that side of it
+  pub side-held : (side : Side) → fetched table left right side i ≡ onSide side (getD rows i d)
+  unfolding fetched
+  side-held Side.left =
+      ap (λ (numbers : List ℕ). part left (getD numbers 4 0) (getD numbers 5 0)) row-held
+      ∙ entry-held (λ (r : Row). r .left) rows (held .left-pool) i d h
+  side-held Side.right =
+      ap (λ (numbers : List ℕ). part right (getD numbers 6 0) (getD numbers 7 0)) row-held
+      ∙ entry-held (λ (r : Row). r .right) rows (held .right-pool) i d h

@@ -11,11 +11,12 @@ use lib.ListN.{length, getD, set, length-append, length-set}
 use lib.Seq.{getD-at, getD-set-same, getD-set-other}
 use Rattle.format.specs.Text.{any, sameList}
 use Rattle.format.specs.File.{Node}
-use Rattle.format.specs.Tables.{padded, joinAll, nodeRecord}
+use Rattle.format.specs.Tables.{nodeRecord}
 use Rattle.tables.specs.Records.{nodeAt, nodeOf, nodeNumbers}
+use Rattle.tables.specs.Holding.{HoldsNodes}
 use Rattle.tables.specs.Index.{slotWords, formulaWords, slotOf, slotAt, Last, Indexed, entered}
 use Rattle.tables.proofs.Sets.{same-iff, same-false}
-use Rattle.tables.proofs.Encoded.{node-encoded}
+use Rattle.tables.proofs.Encoded.{node-held}
 
 module _ {X : Type 0} (test : X → Bool) where
   any-at : (xs : List X) (i : ℕ) (d : X) → i < length xs → test (getD xs i d) ≡ true → any test xs ≡ true
@@ -34,9 +35,9 @@ module _ {X : Type 0} (test : X → Bool) where
 -- ---- a walk along the index
 
 -- the record of a formula, as it is read
-pub record-there : (formulas : List ℕ) (nodes : List Node) → formulas ≡ padded (length formulas) (joinAll nodeRecord nodes) → (i : ℕ) → i < length nodes
+pub record-there : {nodes : List Node} {formulas : List ℕ} → HoldsNodes nodes formulas → (i : ℕ) → i < length nodes
     → nodeNumbers (nodeOf (nodeAt formulas i)) ≡ nodeRecord (getD nodes i Node.bot)
-record-there formulas nodes e i h = ap (λ (l : List ℕ). nodeNumbers (nodeOf (nodeAt l i))) e ∙ ap (λ (l : List ℕ). nodeNumbers (nodeOf l)) (node-encoded (length formulas) nodes i Node.bot h) ∙ same (getD nodes i Node.bot)
+record-there {nodes} held i h = ap (λ (l : List ℕ). nodeNumbers (nodeOf l)) (node-held held i Node.bot h) ∙ same (getD nodes i Node.bot)
   where
     same : (m : Node) → nodeNumbers (nodeOf (nodeRecord m)) ≡ nodeRecord m
     same Node.bot = refl

@@ -3,5 +3,6 @@ pub mod Placed
 pub mod Sets
 pub mod Encoded
 pub mod Indexing
+pub mod Reading
 mod Equal
 mod Turns

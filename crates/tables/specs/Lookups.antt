@@ -9,7 +9,8 @@ use lib.ListN.{length, getD, take, drop}
 use Rattle.format.specs.Text.{Bytes, any, sameList}
 use Rattle.format.specs.File.{Node, Name}
 use Rattle.tables.specs.declared.records.NodeRecord.{NodeRecord}
-use Rattle.tables.specs.Records.{nameWidth, nodeAt, nodeOf}
+use Rattle.format.specs.Tables.{nameWidth}
+use Rattle.tables.specs.Records.{nodeAt, nodeOf}
 
 -- the first so many records of this width, as far as they lie inside the table
 unfoldable pub firstRecords : ℕ → ℕ → List ℕ → List (List ℕ)

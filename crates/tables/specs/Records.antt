@@ -5,7 +5,7 @@ use mathlib.Core.List.{List, [], _∷_, _++_}
 use lib.Dec.{leb}
 use lib.ListN.{length, getD, take, drop}
 use Rattle.format.specs.File.{Row}
-use Rattle.format.specs.Tables.{Side, absent, part}
+use Rattle.format.specs.Tables.{Side, absent, nodeWidth, part}
 use Rattle.tables.specs.declared.records.NodeRecord.{NodeRecord}
 use Rattle.tables.specs.declared.records.RowRecord.{RowRecord}
 
@@ -17,13 +17,6 @@ sideWanted false = Side.right
 abbrev pub onSide : Side → Row → List ℕ
 onSide Side.left r = r .left
 onSide Side.right r = r .right
-
--- the numbers in the record of a name, and of a formula
-abbrev pub nameWidth : ℕ
-nameWidth = 2
-
-abbrev pub nodeWidth : ℕ
-nodeWidth = 3
 
 -- the table with these numbers at a place; as it was, where they do not fit
 unfoldable pub written : List ℕ → ℕ → List ℕ → List ℕ

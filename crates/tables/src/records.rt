@@ -6,7 +6,8 @@ ghost use Prim.Native.Nat.{_*_};
 ghost use mathlib.Core.List.{[], _∷_};
 ghost use Rattle.format.specs.Tables.{rowWidth, rowAt};
 ghost use Rattle.format.specs.Tables.{part as partOf};
-ghost use Rattle.tables.specs.Records.{written, nameWidth, nodeWidth, nodeNumbers, rowNumbers, nodeAt, nodeOf, rowOf};
+ghost use Rattle.format.specs.Tables.{nameWidth, nodeWidth};
+ghost use Rattle.tables.specs.Records.{written, nodeNumbers, rowNumbers, nodeAt, nodeOf, rowOf};
 
 // The number of an absent field.
 const ABSENT: u16 = 65535;

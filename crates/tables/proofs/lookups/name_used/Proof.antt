@@ -7,7 +7,7 @@ use mathlib.Core.Path.{_≡_, sym, ap, _∙_}
 use borrow.Author.Needs.{needs}
 use lib.ListN.{length, getD, take, drop}
 use lib.Seq.{drop-cons}
-use Rattle.tables.specs.Records.{nameWidth}
+use Rattle.format.specs.Tables.{nameWidth}
 use Rattle.tables.specs.Lookups.{spelledBy}
 use Rattle.tables.proofs.Turns.{Passed, start, next, found, ended}
 use Rattle.tables.proofs.lookups.name_used.Statement.{statement}

@@ -5,7 +5,8 @@ use mathlib.Core.Path.{sym, ap}
 use lib.Dec.{lit<}
 use lib.ListN.{length}
 use Rattle.format.specs.Tables.{absent}
-use Rattle.tables.specs.Records.{nodeWidth, nodeOf}
+use Rattle.format.specs.Tables.{nodeWidth}
+use Rattle.tables.specs.Records.{nodeOf}
 use Rattle.tables.proofs.Placed.{part-outside, part-first, part-at}
 use Rattle.tables.proofs.records.node.Statement.{statement}
 use Rattle.tables.proofs.records.node.Tie as tie

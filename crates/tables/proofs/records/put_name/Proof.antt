@@ -5,7 +5,7 @@ use native.Mathlib.Omega.{arith}
 use mathlib.Core.List.{[], _∷_}
 use mathlib.Core.Path.{sym}
 use lib.ListN.{length-set}
-use Rattle.tables.specs.Records.{nameWidth}
+use Rattle.format.specs.Tables.{nameWidth}
 use Rattle.tables.proofs.Placed.{written-outside, written-sets}
 use Rattle.tables.proofs.records.put_name.Statement.{statement}
 use Rattle.tables.proofs.records.put_name.Tie as tie

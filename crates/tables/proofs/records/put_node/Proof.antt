@@ -4,7 +4,8 @@ use native.Mathlib.Numerals.{towards-suc}
 use native.Mathlib.Omega.{arith}
 use mathlib.Core.Path.{sym}
 use lib.ListN.{length-set}
-use Rattle.tables.specs.Records.{nodeWidth, nodeNumbers}
+use Rattle.format.specs.Tables.{nodeWidth}
+use Rattle.tables.specs.Records.{nodeNumbers}
 use Rattle.tables.proofs.Placed.{written-outside, written-sets}
 use Rattle.tables.proofs.records.put_node.Statement.{statement}
 use Rattle.tables.proofs.records.put_node.Tie as tie

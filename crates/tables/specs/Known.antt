@@ -1,0 +1,19 @@
+-- What is known of each formula besides its record, in words beside the table: the atoms that occur in it, and an index by which
+-- an equal formula is found.
+use Prim.Native.Nat.{ℕ, _<_}
+use mathlib.Core.List.{List}
+use mathlib.Core.Logic.{_↔_}
+use lib.ListN.{length, getD}
+use Rattle.equilibrium.specs.Formula.{atomsOf}
+use Rattle.equilibrium.specs.Meaning.{_∈_}
+use Rattle.format.specs.File.{Body, decodedAt}
+use Rattle.atomset.specs.AtomSet.{Member}
+use Rattle.tables.specs.Index.{Indexed}
+
+-- the word of formula i is the set of the atoms that occur in it
+abbrev pub AtomWords : Body → List ℕ → Type 0
+AtomWords b words = (i : ℕ) → i < length (b .nodes) → (k : ℕ) → Member k (getD words i 0) ↔ (k ∈ atomsOf (decodedAt (b .nodes) i))
+
+pub record Known (b : Body) (words : List ℕ) : Type 0 where
+  pub atoms : AtomWords b words
+  pub index : Indexed (b .nodes) words
