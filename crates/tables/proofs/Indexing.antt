@@ -14,20 +14,12 @@ use Rattle.format.specs.File.{Node}
 use Rattle.format.specs.Tables.{nodeRecord}
 use Rattle.tables.specs.Records.{nodeAt, nodeOf, nodeNumbers}
 use Rattle.tables.specs.Holding.{HoldsNodes}
-use Rattle.tables.specs.Index.{slotWords, formulaWords, slotOf, slotAt, Last, Indexed, entered}
-use Rattle.tables.proofs.Sets.{same-iff, same-false}
+use Rattle.tables.specs.Index.{slotWords, formulaWords, slotOf, slotAt, Last, Indexed, entered, NodeFound}
+use Rattle.tables.specs.declared.index.Found.{Found}
+use Rattle.tables.proofs.Sets.{same-false}
 use Rattle.tables.proofs.Encoded.{node-held}
 
 module _ {X : Type 0} (test : X → Bool) where
-  any-at : (xs : List X) (i : ℕ) (d : X) → i < length xs → test (getD xs i d) ≡ true → any test xs ≡ true
-  any-at [] i d h e = absurd (omega arith)
-  any-at (x ∷ xs) zero d h e = ap (λ (b : Bool). b || any test xs) e
-  any-at (x ∷ xs) (suc i) d h e = either (test x) (any-at xs i d (omega arith) e)
-    where
-      either : (b : Bool) → any test xs ≡ true → (b || any test xs) ≡ true
-      either true p = refl
-      either false p = p
-
   any-none : (xs : List X) (d : X) → ((i : ℕ) → i < length xs → test (getD xs i d) ≡ false) → any test xs ≡ false
   any-none [] d h = refl
   any-none (x ∷ xs) d h = ap₂ _||_ (h 0 (omega arith)) (any-none xs d (λ i l. h (suc i) (omega arith)))
@@ -54,10 +46,7 @@ pub record Cursor (nodes : List Node) (numbers : List ℕ) (after : ℕ) : Type 
   pub earlier : (j : ℕ) → j < length nodes → nodeRecord (getD nodes j Node.bot) ≡ numbers → j < after
 
 module _ (nodes : List Node) (numbers : List ℕ) where
-  pub walk-found : (i : ℕ) → i < length nodes → nodeRecord (getD nodes i Node.bot) ≡ numbers → any (λ m. sameList (nodeRecord m) numbers) nodes ≡ true
-  walk-found i h e = any-at (λ m. sameList (nodeRecord m) numbers) nodes i Node.bot h (same-iff _ _ .1 e)
-
-  pub walk-ended : Cursor nodes numbers 0 → any (λ m. sameList (nodeRecord m) numbers) nodes ≡ false
+  walk-ended : Cursor nodes numbers 0 → any (λ m. sameList (nodeRecord m) numbers) nodes ≡ false
   walk-ended c = any-none (λ m. sameList (nodeRecord m) numbers) nodes Node.bot (λ i h. same-false _ _ (λ e. omega (arith, c .earlier i h e)))
 
   module _ (words : List ℕ) (index : Indexed nodes words) where
@@ -81,6 +70,25 @@ module _ (nodes : List Node) (numbers : List ℕ) where
       where
         before : (j : ℕ) → j < suc i → nodeRecord (getD nodes j Node.bot) ≡ numbers → j < i
         before j h e = let apart : j ≡ i → ⊥ = λ k. other (ap (λ (n : ℕ). nodeRecord (getD nodes n Node.bot)) (sym k) ∙ e) in omega arith
+
+-- the two answers of the walk
+module _ (formulas words numbers : List ℕ) where
+  pub found-at : (at : ℕ) → nodeNumbers (nodeOf (nodeAt formulas at)) ≡ numbers
+      → ((nodes : List Node) → HoldsNodes nodes formulas → Indexed nodes words → at < length nodes) → NodeFound formulas words numbers (Found.At at)
+  found-at at same inside =
+      record {
+        there = λ i e. let k : at ≡ i = cc in ap (λ (n : ℕ). nodeNumbers (nodeOf (nodeAt formulas n))) (sym k) ∙ same;
+        within = λ nodes held index i e. let k : at ≡ i = cc in omega (arith, inside nodes held index);
+        missing = λ nodes held index e. let z : _≡_ {A = ℕ} 0 1 = cc in absurd (omega arith);
+      }
+
+  pub found-nowhere : ((nodes : List Node) → HoldsNodes nodes formulas → Indexed nodes words → Cursor nodes numbers 0) → NodeFound formulas words numbers Found.Nowhere
+  found-nowhere ended =
+      record {
+        there = λ i e. let z : _≡_ {A = ℕ} 0 1 = cc in absurd (omega arith);
+        within = λ nodes held index i e. let z : _≡_ {A = ℕ} 0 1 = cc in absurd (omega arith);
+        missing = λ nodes held index e. walk-ended nodes numbers (ended nodes held index);
+      }
 
 -- ---- the index of no formula, and with one more
 

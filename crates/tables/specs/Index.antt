@@ -1,12 +1,16 @@
 -- An index of the formulas by their records, in words beside the table.
 use Prim.Native.Nat.{ℕ, suc, _+_, _*_, _%_, _≤_, _<_}
-use mathlib.Core.Bool.{cond}
+use mathlib.Core.Bool.{false, cond}
 use mathlib.Core.List.{List}
 use mathlib.Core.Path.{_≡_}
 use lib.Dec.{leb}
 use lib.ListN.{length, getD, set}
+use Rattle.format.specs.Text.{any, sameList}
 use Rattle.format.specs.File.{Node}
 use Rattle.format.specs.Tables.{nodeRecord}
+use Rattle.tables.specs.Records.{nodeAt, nodeOf, nodeNumbers}
+use Rattle.tables.specs.Holding.{HoldsNodes}
+use Rattle.tables.specs.declared.index.Found.{Found}
 
 -- the words of the slots and of the formulas begin here
 abbrev pub slotWords : ℕ
@@ -39,3 +43,12 @@ pub record Indexed (nodes : List Node) (words : List ℕ) : Type 0 where
 abbrev pub entered : List ℕ → ℕ → List ℕ → List ℕ
 entered words i numbers =
     cond (leb 1024 i) words (set (set words (formulaWords + i) (getD words (slotWords + slotOf numbers) 0)) (slotWords + slotOf numbers) (i + 1))
+
+-- What is found by the index, in any tables: a formula that has the record. Where the table holds formulas with their index, it
+-- is one of them, and nothing is found only where none has the record; elsewhere it is free whether one is found.
+pub record NodeFound (formulas words numbers : List ℕ) (r : Found) : Type 0 where
+  pub there : (i : ℕ) → r ≡ Found.At i → nodeNumbers (nodeOf (nodeAt formulas i)) ≡ numbers
+  pub within : (nodes : List Node) → HoldsNodes nodes formulas → Indexed nodes words → (i : ℕ) → r ≡ Found.At i → i < length nodes
+  pub missing :
+      (nodes : List Node) → HoldsNodes nodes formulas → Indexed nodes words → r ≡ Found.Nowhere
+      → any (λ m. sameList (nodeRecord m) numbers) nodes ≡ false

@@ -2,14 +2,11 @@
 // word of a slot is one past the last formula of that slot, and the word of a formula is one past the last formula before it
 // of its slot; 0 where there is none. Equal formulas have one slot.
 ghost use mathlib.Core.Path.{_≡_};
-ghost use mathlib.Core.List.{List};
 ghost use Prim.Native.Nat.{_+_, _≤_, _<_};
-ghost use lib.ListN.{length, getD, set};
-ghost use Rattle.format.specs.Text.{any, sameList};
-ghost use Rattle.format.specs.File.{Node};
-ghost use Rattle.format.specs.Tables.{padded, joinAll, nodeRecord};
+ghost use lib.ListN.{getD, set};
+ghost use Rattle.format.specs.Text.{sameList};
 ghost use Rattle.tables.specs.Records.{nodeAt, nodeOf, nodeNumbers};
-ghost use Rattle.tables.specs.Index.{formulaWords, slotOf, entered, Indexed};
+ghost use Rattle.tables.specs.Index.{formulaWords, slotOf, entered, NodeFound};
 use crate::records::NodeRecord;
 use crate::records::node;
 use crate::records::wide;
@@ -37,7 +34,7 @@ pub fn word(words: &[u64], at: usize) -> u64
 }
 
 // Stores a word where the table has room for it.
-pub fn put_word(words: &mut [u64], at: usize, word: u64)
+pub(crate) fn put_word(words: &mut [u64], at: usize, word: u64)
     ensures { λ _. ⌜ now (words .exit) ≡ set (now (words .entry)) at word ⌝ }
 {
     if at < words.len() {
@@ -73,23 +70,30 @@ fn past_last(words: &[u64], i: u64) -> u64
     after
 }
 
-// Whether one of the formulas has this record, in a table that holds them with their index.
-pub fn holds_node(formulas: &[u16], words: &[u64], key: NodeRecord) -> bool
-    ensures { λ r. ⌜ ((nodes : List Node) → now (formulas .entry) ≡ padded (length (now (formulas .entry))) (joinAll nodeRecord nodes) → Indexed nodes (now (words .entry)) → r ≡ any (λ m. sameList (nodeRecord m) (nodeNumbers key)) nodes) ⌝ }
+// Where a formula is.
+pub enum Found {
+    At(usize),
+    Nowhere,
+}
+
+// The formula that has this record, by the index.
+pub fn find_node(formulas: &[u16], words: &[u64], key: NodeRecord) -> Found
+    ensures { λ r. ⌜ NodeFound (now (formulas .entry)) (now (words .entry)) (nodeNumbers key) r ⌝ }
 {
     let mut after = word(words, SLOTS + slot(key));
     while 0 < after {
         let i = after - 1;
-        if has_record(formulas, i as usize, key) {
-            return true;
+        let at = i as usize;
+        if has_record(formulas, at, key) {
+            return Found::At(at);
         }
         after = past_last(words, i);
     }
-    false
+    Found::Nowhere
 }
 
 // Enters formula i into the index. Outside of it nothing changes.
-pub fn enter_node(words: &mut [u64], i: usize, key: NodeRecord)
+pub(crate) fn enter_node(words: &mut [u64], i: usize, key: NodeRecord)
     ensures { λ _. ⌜ now (words .exit) ≡ entered (now (words .entry)) i (nodeNumbers key) ⌝ }
 {
     if 1024 <= i {

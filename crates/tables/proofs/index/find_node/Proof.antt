@@ -1,4 +1,4 @@
--- `tables::index::holds_node` meets its contract. The invariant of its loop: for every list of formulas that the table holds with
+-- `tables::index::find_node` meets its contract. The invariant of its loop: for every list of formulas that the table holds with
 -- their index, the walk is at a cursor. Assumes nothing.
 use Prim.Native.Nat.{ℕ, suc, _+_, _-_, _<_}
 use native.Mathlib.Omega.{arith}
@@ -8,17 +8,18 @@ use mathlib.Core.Path.{_≡_, sym, ap, subst, _∙_}
 use borrow.Author.Needs.{needs}
 use lib.ListN.{length, getD}
 use Rattle.format.specs.File.{Node}
-use Rattle.format.specs.Tables.{padded, joinAll, nodeRecord}
+use Rattle.format.specs.Tables.{nodeRecord}
 use Rattle.tables.specs.Records.{nodeNumbers}
+use Rattle.tables.specs.Holding.{HoldsNodes}
 use Rattle.tables.specs.Index.{slotWords, Indexed}
 use Rattle.tables.proofs.Sets.{same-iff}
-use Rattle.tables.proofs.Indexing.{record-there, Cursor, walk-start, walk-next, walk-falls, walk-found, walk-ended}
-use Rattle.tables.proofs.index.holds_node.Statement.{statement}
-use Rattle.tables.proofs.index.holds_node.Tie as tie
+use Rattle.tables.proofs.Indexing.{record-there, Cursor, walk-start, walk-next, walk-falls, found-at, found-nowhere}
+use Rattle.tables.proofs.index.find_node.Statement.{statement}
+use Rattle.tables.proofs.index.find_node.Tie as tie
 
 abbrev Inv-loop : tie.InvT-loop
 Inv-loop formulas words key after₀ after =
-    (nodes : List Node) → formulas ≡ padded (length formulas) (joinAll nodeRecord nodes) → Indexed nodes words → Cursor nodes (nodeNumbers key) after
+    (nodes : List Node) → HoldsNodes nodes formulas → Indexed nodes words → Cursor nodes (nodeNumbers key) after
 
 abbrev μ-loop : tie.MeasureT-loop
 μ-loop formulas words key after₀ after = after
@@ -45,13 +46,11 @@ has-record-requires : tie.Need-has-record-requires Inv-loop μ-loop
 has-record-requires c κs = search needs
 
 returns : tie.Need-returns Inv-loop μ-loop
-returns c nodes held index =
-    let args = c .before .before .before .before .before .before .before .before .args in
+returns c =
     let loop = c .before .before .before .loop in
-    let i = loop .after - 1 in
-    let here : i < length nodes = omega (arith, loop .inv nodes held index .within) in
+    let at = loop .after - 1 in
     let same = same-iff _ _ .0 (sym (c .before .has-record .ensures) ∙ c .if1 .taken) in
-    sym (walk-found nodes (nodeNumbers (args .key)) i here (sym (record-there (args .formulas .now) nodes held i here) ∙ same))
+    found-at _ _ _ at same (λ nodes held index. omega (arith, loop .inv nodes held index .within))
 
 past-last-requires : tie.Need-past-last-requires Inv-loop μ-loop
 past-last-requires c κs = search needs
@@ -67,18 +66,18 @@ loop-again c nodes held index =
     let one-past : loop .after ≡ suc i = omega arith in
     let at : Cursor nodes (nodeNumbers (args .key)) (suc i) = subst (Cursor nodes (nodeNumbers (args .key))) one-past (loop .inv nodes held index) in
     let here : i < length nodes = omega (arith, at .within) in
-    let other : nodeRecord (getD nodes i Node.bot) ≡ nodeNumbers (args .key) → ⊥ = λ e. true≢false (sym (c .before .before .has-record .ensures ∙ same-iff _ _ .1 (record-there (args .formulas .now) nodes held i here ∙ e)) ∙ c .before .if1 .left) in
+    let other : nodeRecord (getD nodes i Node.bot) ≡ nodeNumbers (args .key) → ⊥ = λ e. true≢false (sym (c .before .before .has-record .ensures ∙ same-iff _ _ .1 (record-there held i here ∙ e)) ∙ c .before .if1 .left) in
     subst (Cursor nodes (nodeNumbers (args .key))) (sym (c .past-last .ensures .1 (omega (arith, index .few)) (walk-falls nodes (nodeNumbers (args .key)) (args .words .now) index i at)))
     (walk-next nodes (nodeNumbers (args .key)) (args .words .now) index i at other)
 
 returns-2 : tie.Need-returns-2 Inv-loop μ-loop
-returns-2 c nodes held index =
+returns-2 c =
     let args = c .before .before .before .before .before .before .args in
     let ended : c .before .loop .after ≡ 0 = omega arith in
-    sym (walk-ended nodes (nodeNumbers (args .key)) (subst (Cursor nodes (nodeNumbers (args .key))) ended (c .before .loop .inv nodes held index)))
+    found-nowhere _ _ _ (λ nodes held index. subst (Cursor nodes (nodeNumbers (args .key))) ended (c .before .loop .inv nodes held index))
 
-pub holds-node-spec : {M : Type 1} → statement M
-holds-node-spec =
+pub find-node-spec : {M : Type 1} → statement M
+find-node-spec =
     tie.close
     (tie.spec
     Inv-loop
