@@ -2,7 +2,9 @@
 pub mod Placed
 pub mod Sets
 pub mod Encoded
+pub mod Counting
 pub mod Indexing
 pub mod Reading
+pub mod Knowing
 mod Equal
 mod Turns

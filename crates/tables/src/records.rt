@@ -8,16 +8,12 @@ ghost use Rattle.format.specs.Tables.{rowWidth, rowAt};
 ghost use Rattle.format.specs.Tables.{part as partOf};
 ghost use Rattle.format.specs.Tables.{nameWidth, nodeWidth};
 ghost use Rattle.tables.specs.Records.{written, nodeNumbers, rowNumbers, nodeAt, nodeOf, rowOf};
+use crate::limits::NAME_WIDTH;
+use crate::limits::NODE_WIDTH;
+use crate::limits::ROW_WIDTH;
 
 // The number of an absent field.
-const ABSENT: u16 = 65535;
-
-// The numbers in one record of each table.
-pub(crate) const NAME_WIDTH: usize = 2;
-
-pub(crate) const NODE_WIDTH: usize = 3;
-
-pub(crate) const ROW_WIDTH: usize = 8;
+pub const ABSENT: u16 = 65535;
 
 // The record of a formula: its word (0 to 5 for bot, atom, not, and, or, imp) and its operands.
 pub struct NodeRecord {

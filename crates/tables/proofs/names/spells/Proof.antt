@@ -1,4 +1,4 @@
--- `tables::lookups::spells` meets its contract: the part of the text is taken where it lies inside, and is compared whole. Assumes nothing.
+-- `tables::names::spells` meets its contract: the part of the text is taken where it lies inside, and is compared whole. Assumes nothing.
 use Prim.Native.Nat.{ℕ, _+_, _-_}
 use native.Mathlib.Omega.{arith}
 use mathlib.Core.Bool.{Bool, _&&_}
@@ -7,9 +7,9 @@ use borrow.Author.Needs.{needs}
 use borrow.Author.Tests.{le-leb, lt-leb}
 use lib.ListN.{take, drop}
 use Rattle.format.specs.Text.{sameList}
-use Rattle.tables.specs.Lookups.{spelled}
-use Rattle.tables.proofs.lookups.spells.Statement.{statement}
-use Rattle.tables.proofs.lookups.spells.Tie as tie
+use Rattle.tables.specs.Names.{spelled}
+use Rattle.tables.proofs.names.spells.Statement.{statement}
+use Rattle.tables.proofs.names.spells.Tie as tie
 
 wide-requires : tie.Need-wide-requires
 wide-requires c κs = search needs

@@ -1,4 +1,4 @@
--- `tables::lookups::same_bytes` meets its contract. The invariant of its loop: the lists are the same exactly where their rests from i are. Assumes nothing.
+-- `tables::names::same_bytes` meets its contract. The invariant of its loop: the lists are the same exactly where their rests from i are. Assumes nothing.
 use Prim.Native.Nat.{_-_}
 use mathlib.Core.Path.{_≡_, refl, sym, ap, _∙_}
 use native.Mathlib.Omega.{arith}
@@ -7,8 +7,8 @@ use lib.ListN.{length, drop}
 use Rattle.format.specs.Text.{sameList}
 use Rattle.tables.proofs.Sets.{same-false}
 use Rattle.tables.proofs.Equal.{same-end, same-next, same-differs}
-use Rattle.tables.proofs.lookups.same_bytes.Statement.{statement}
-use Rattle.tables.proofs.lookups.same_bytes.Tie as tie
+use Rattle.tables.proofs.names.same_bytes.Statement.{statement}
+use Rattle.tables.proofs.names.same_bytes.Tie as tie
 
 abbrev Inv-loop : tie.InvT-loop
 Inv-loop a b i₀ i = sameList a b ≡ sameList (drop i a) (drop i b)
