@@ -12,7 +12,7 @@ ghost use Rattle.judge.specs.Running.{Running, Advances};
 use lines::state::Counts;
 use lines::step_line;
 use tables::clear;
-use text::find;
+use text::parts::find;
 
 // Refusal number and line; number 0 is acceptance, with the line of the claim.
 #[repr(C)]

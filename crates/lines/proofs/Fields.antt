@@ -8,8 +8,8 @@ use lib.ListN.{length, getD, drop}
 use Rattle.elk.specs.Rules.{Rule}
 use Rattle.format.specs.Text.{Bytes, bytes, _<$>_, _<*>_, fieldsOf, sameList, numberOf, principalOf, listOf}
 use Rattle.format.specs.Line.{Line, rowLine, claimLine, ruleOf, makeRow, rowFields, claimFields, ofKind, lineOf}
-use Rattle.text.specs.Answers.{startOf, between, Fielded}
-use Rattle.text.specs.declared.Fields.{Fields}
+use Rattle.text.specs.Parts.{startOf, between, Fielded}
+use Rattle.text.specs.declared.parts.Fields.{Fields}
 use Rattle.lines.specs.Lined.{OfKind}
 
 -- ---- a field between its ends

@@ -14,10 +14,11 @@ use Rattle.format.specs.File.{Row}
 use Rattle.format.specs.Line.{rowLine, ruleOf, makeRow}
 use Rattle.rows.proofs.RuleNumbers.{code-below}
 use Rattle.text.specs.Words.{ruleCode}
-use Rattle.text.specs.Answers.{numberAs, principalAs, listedAs, ListedInto}
-use Rattle.text.specs.declared.Number.{Number}
-use Rattle.text.specs.declared.Optional.{Optional}
-use Rattle.text.specs.declared.Listed.{Listed}
+use Rattle.text.specs.Numbers.{numberAs, principalAs}
+use Rattle.text.specs.Lists.{listedAs, ListedInto}
+use Rattle.text.specs.declared.numbers.Number.{Number}
+use Rattle.text.specs.declared.numbers.Optional.{Optional}
+use Rattle.text.specs.declared.lists.Listed.{Listed}
 use Rattle.lines.specs.Entering.{enteredAs, rowEntered, isBad, wellOf, RowInto}
 use Rattle.lines.proofs.Fields.{rowWritten}
 

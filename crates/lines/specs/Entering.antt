@@ -14,10 +14,11 @@ use Rattle.format.specs.Line.{ruleOf}
 use Rattle.format.specs.Tables.{mostRows, mostEntries, mostOnSide}
 use Rattle.format.specs.Tests.{Test, _when_}
 use Rattle.text.specs.Words.{ruleCode}
-use Rattle.text.specs.Answers.{numberAs, principalAs, listedAs, laidOver}
-use Rattle.text.specs.declared.Number.{Number}
-use Rattle.text.specs.declared.Optional.{Optional}
-use Rattle.text.specs.declared.Listed.{Listed}
+use Rattle.text.specs.Numbers.{numberAs, principalAs}
+use Rattle.text.specs.Lists.{listedAs, laidOver}
+use Rattle.text.specs.declared.numbers.Number.{Number}
+use Rattle.text.specs.declared.numbers.Optional.{Optional}
+use Rattle.text.specs.declared.lists.Listed.{Listed}
 use Rattle.lines.specs.declared.entered.Entered.{Entered}
 use Rattle.lines.specs.declared.state.Counts.{Counts}
 

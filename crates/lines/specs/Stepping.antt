@@ -8,7 +8,7 @@ use Rattle.format.specs.File.{File}
 use Rattle.format.specs.Tables.{mostBytes}
 use Rattle.format.specs.Judged.{Place, step}
 use Rattle.format.proofs.Beginnings.{Good}
-use Rattle.text.specs.Answers.{between}
+use Rattle.text.specs.Parts.{between}
 use Rattle.lines.specs.State.{Contents, Stored}
 use Rattle.lines.specs.Lined.{Lined}
 use Rattle.lines.specs.declared.state.Counts.{Counts}

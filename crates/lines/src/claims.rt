@@ -8,7 +8,7 @@ ghost use Rattle.format.specs.File.{Body, File};
 ghost use Rattle.format.specs.Tests.{first, lastIs};
 ghost use Rattle.format.specs.Judged.{Place, step};
 ghost use Rattle.rows.specs.Ground.{Rows};
-ghost use Rattle.text.specs.Answers.{Fielded};
+ghost use Rattle.text.specs.Parts.{Fielded};
 ghost use Rattle.lines.specs.State.{Contents, Stored};
 ghost use Rattle.lines.specs.Entering.{numbered};
 ghost use Rattle.lines.specs.Lined.{OfKind, Lined};
@@ -24,9 +24,9 @@ use rows::rules::rule_number;
 use tables::fetch;
 use tables::records::row;
 use tables::sides::same;
-use text::Fields;
-use text::Listed;
-use text::read_list;
+use text::lists::Listed;
+use text::lists::read_list;
+use text::parts::Fields;
 
 // Whether the last of `count` rows is an ELK row with exactly these sides.
 fn last_is<'a>(

@@ -10,7 +10,7 @@ ghost use Rattle.format.specs.Line.{rowLine, lineOf};
 ghost use Rattle.format.specs.Tables.{mostRows, mostEntries, mostOnSide};
 ghost use Rattle.format.specs.Judged.{Place, step};
 ghost use Rattle.format.proofs.Beginnings.{Good};
-ghost use Rattle.text.specs.Answers.{Fielded};
+ghost use Rattle.text.specs.Parts.{Fielded};
 ghost use Rattle.lines.specs.State.{Contents, Stored};
 ghost use Rattle.lines.specs.Lined.{OfKind, Lined, withTables};
 ghost use Rattle.lines.specs.Settling.{principalNumber, draftOf, recordOf, RowStored, Passing, RowLaid};
@@ -29,8 +29,8 @@ use rows::judge_row;
 use tables::records::RowRecord;
 use tables::records::put_row;
 use tables::records::put_side;
-use text::Fields;
-use text::Optional;
+use text::numbers::Optional;
+use text::parts::Fields;
 
 // The principal formula as a number of a table, 65,535 if absent.
 fn principal_number(principal: Optional) -> u16

@@ -9,17 +9,17 @@ ghost use lib.ListN.{getD};
 ghost use Rattle.format.specs.Text.{fieldsOf};
 ghost use Rattle.format.specs.Tables.{mostEntries};
 ghost use Rattle.format.specs.Tests.{first};
-ghost use Rattle.text.specs.Answers.{Fielded};
+ghost use Rattle.text.specs.Parts.{Fielded};
 ghost use Rattle.lines.specs.Entering.{isNumber, isBad, RowInto, wellOf, pastOf, aheadOf, badOf, otherOf, orderOf, roomOf, referencesOf, earlyOf, numbered};
 use crate::state::Counts;
-use text::Fields;
-use text::Listed;
-use text::Number;
-use text::Optional;
-use text::read_list;
-use text::read_number;
-use text::read_principal;
-use text::rule_word;
+use text::lists::Listed;
+use text::lists::read_list;
+use text::numbers::Number;
+use text::numbers::Optional;
+use text::numbers::read_number;
+use text::numbers::read_principal;
+use text::parts::Fields;
+use text::words::rule_word;
 
 // Field i of a line that has it.
 pub(crate) fn field(line: &[u8], fields: Fields, i: usize) -> &[u8]

@@ -5,7 +5,7 @@ ghost use lib.ListN.{length};
 ghost use Rattle.format.specs.File.{Node, Body};
 ghost use Rattle.format.specs.Line.{nodeOf};
 ghost use Rattle.format.specs.Tests.{refersAhead};
-ghost use Rattle.text.specs.Answers.{Fielded};
+ghost use Rattle.text.specs.Parts.{Fielded};
 ghost use Rattle.lines.specs.Lined.{OfKind};
 ghost use Rattle.lines.specs.Drafts.{writtenAs, narrowed, FormulaNumbered, FormulaLined};
 use crate::entered::field;
@@ -19,11 +19,11 @@ use tables::index::put_word;
 use tables::lookups::node_atoms;
 use tables::records::NodeRecord;
 use tables::records::put_node;
-use text::Fields;
-use text::Number;
-use text::formula_word;
-use text::is_dash;
-use text::read_number;
+use text::numbers::Number;
+use text::numbers::read_number;
+use text::parts::Fields;
+use text::parts::is_dash;
+use text::words::formula_word;
 
 // A formula as it is written: a word from 0 to 5, and its operands, 65,535 where it has none.
 pub struct Written {

@@ -16,9 +16,9 @@ use names::atom_line;
 use state::Counts;
 use state::Stepped;
 use state::refused;
-use text::Kind;
-use text::line_kind;
-use text::read_fields;
+use text::parts::read_fields;
+use text::words::Kind;
+use text::words::line_kind;
 
 // The line from `start` to `end` of the text, which is line `number`. A place outside the text is refused as a bad line.
 pub fn step_line(

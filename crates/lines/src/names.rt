@@ -2,7 +2,7 @@
 ghost use mathlib.Core.Path.{_≡_};
 ghost use Prim.Native.Nat.{_≤_};
 ghost use lib.ListN.{length};
-ghost use Rattle.text.specs.Answers.{between, Fielded};
+ghost use Rattle.text.specs.Parts.{between, Fielded};
 ghost use Rattle.lines.specs.Lined.{OfKind};
 ghost use Rattle.lines.specs.Drafts.{AtomNumbered, AtomLined};
 use crate::entered::field;
@@ -12,10 +12,10 @@ use crate::state::Stepped;
 use crate::state::refused;
 use tables::lookups::name_used;
 use tables::records::put_name;
-use text::Fields;
-use text::Number;
-use text::is_name;
-use text::read_number;
+use text::names::is_name;
+use text::numbers::Number;
+use text::numbers::read_number;
+use text::parts::Fields;
 
 // The first of the numbers 4 to 6 that applies to an atom, 0 if none does.
 fn atom_number(text: &[u8], names: &[u16], counts: Counts, n: u32, name: &[u8]) -> u32

@@ -1,4 +1,5 @@
-pub mod Scan
+pub mod Parts
+pub mod Numbers
+pub mod Lists
+pub mod Names
 pub mod Words
-pub mod Answers
-pub mod Inner

@@ -1,11 +1,15 @@
 -- The words of a text as numbers: the kinds of line, the words of formulas, and the rules.
-use Prim.Native.Nat.{ℕ}
-use mathlib.Core.Bool.{cond}
+use Prim.Native.Nat.{ℕ, _+_, _*_}
+use mathlib.Core.Path.{_≡_}
+use mathlib.Core.Bool.{Bool, true, cond, _&&_}
+use mathlib.Core.List.{List, [], _∷_}
 use mathlib.Core.Option.{Option, none, some}
-use Rattle.elk.specs.Rules.{Rule, codeOf}
-use Rattle.format.specs.Text.{Bytes, is}
-use Rattle.text.specs.declared.Kind.{Kind}
-use Rattle.text.specs.declared.Kind.the-variants.{Atom, Formula, Row, Claim, Unknown}
+use lib.Dec.{eqb, leb, ltb}
+use lib.ListN.{length}
+use Rattle.elk.specs.Rules.{Rule, codeOf, wordOf}
+use Rattle.format.specs.Text.{Bytes, bytes, is, all, sameList}
+use Rattle.text.specs.declared.words.Kind.{Kind}
+use Rattle.text.specs.declared.words.Kind.the-variants.{Atom, Formula, Row, Claim, Unknown}
 
 -- the kind of line that a first field names
 unfoldable pub kindOf : Bytes → Kind
@@ -14,9 +18,37 @@ kindOf field = cond (is "A" field) Atom (cond (is "F" field) Formula (cond (is "
 -- 0 to 5 for the words of an F line, in the order of the formulas table; 6 for any other
 unfoldable pub formulaWord : Bytes → ℕ
 formulaWord field =
-    cond (is "bot" field) 0 (cond (is "atom" field) 1 (cond (is "not" field) 2 (cond (is "and" field) 3 (cond (is "or" field) 4 (cond (is "imp" field) 5 6)))))
+    cond (is "bot" field) 0 (
+    cond (is "atom" field) 1 (
+    cond (is "not" field) 2 (
+    cond (is "and" field) 3 (
+    cond (is "or" field) 4 (cond (is "imp" field) 5 6)))))
 
 -- the code of a rule; 37 where there is none
 abbrev pub ruleCode : Option Rule → ℕ
 ruleCode none = 37
 ruleCode (some r) = codeOf r
+
+-- ---- keys
+
+-- a word as one number: its bytes as digits to the base 256, the first byte the lowest, and a last digit 1
+unfoldable pub keyOf : Bytes → ℕ
+keyOf [] = 1
+keyOf (b ∷ bs) = keyOf bs * 256 + b
+
+-- a word whose key is a 64-bit number
+abbrev pub isShort : Bytes → Bool
+isShort word = leb (length word) 7 && all (λ b. ltb b 256) word
+
+-- a number that is the key of a short word exactly if the field is that word
+abbrev pub IsKey : Bytes → ℕ → Type 0
+IsKey field key = (word : Bytes) → isShort word ≡ true → eqb key (keyOf word) ≡ sameList field word
+
+-- the key of a rule's word
+abbrev pub wordKey : Rule → ℕ
+wordKey r = keyOf (bytes (wordOf r))
+
+-- the code of the rule of these whose word has this key; 37 where there is none
+abbrev pub codeAmong : List Rule → ℕ → ℕ
+codeAmong [] key = 37
+codeAmong (r ∷ rs) key = cond (eqb key (wordKey r)) (codeOf r) (codeAmong rs key)

@@ -3,7 +3,7 @@ use borrow.Author.Needs.{needs}
 use native.Mathlib.Omega.{arith}
 use mathlib.Core.Path.{refl, sym, _∙_}
 use lib.Seq.{length-take-le}
-use Rattle.text.specs.declared.Kind.the-variants.{Atom, Formula, Row, Claim, Unknown}
+use Rattle.text.specs.declared.words.Kind.the-variants.{Atom, Formula, Row, Claim, Unknown}
 use Rattle.lines.specs.Stepping.{tables}
 use Rattle.lines.proofs.Dispatch.{unknown-line, first-inside, kind-is, stepped-outside, stepped, stepped-bad}
 use Rattle.lines.proofs.step_line.Statement.{statement}

@@ -4,7 +4,7 @@ use mathlib.Core.Path.{_∙_}
 use native.Mathlib.Omega.{arith}
 use borrow.Author.Needs.{needs}
 use lib.Dec.{lit<}
-use Rattle.text.specs.Answers.{FieldAt}
+use Rattle.text.specs.Parts.{FieldAt}
 use Rattle.text_demo.proofs.third.Statement.{statement}
 use Rattle.text_demo.proofs.third.Tie as tie
 

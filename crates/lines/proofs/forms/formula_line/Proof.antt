@@ -5,7 +5,7 @@ use native.Mathlib.Omega.{arith}
 use mathlib.Core.Path.{sym, ap, _∙_}
 use borrow.Author.Tests.{not-true, not-false}
 use Rattle.format.specs.Text.{Bytes, numberOf}
-use Rattle.text.specs.Answers.{numberAs}
+use Rattle.text.specs.Numbers.{numberAs}
 use Rattle.lines.proofs.Nodes.{node-read, formula-miscounted, formula-unnumbered, formula-unwritten, formula-read, formula-bad, formula-refused, formula-lined}
 use Rattle.lines.proofs.forms.formula_line.Statement.{statement}
 use Rattle.lines.proofs.forms.formula_line.Tie as tie

@@ -5,7 +5,7 @@ use native.Mathlib.Omega.{arith}
 use mathlib.Core.Path.{sym, ap, _∙_}
 use lib.ListN.{length}
 use Rattle.format.specs.Text.{Bytes, numberOf}
-use Rattle.text.specs.Answers.{numberAs}
+use Rattle.text.specs.Numbers.{numberAs}
 use Rattle.lines.proofs.Atoms.{atom-miscounted, atom-unnumbered, atom-read, name-fits, name-stands, numbered-as, atom-bad, atom-refused, atom-lined}
 use Rattle.lines.proofs.names.atom_line.Statement.{statement}
 use Rattle.lines.proofs.names.atom_line.Tie as tie

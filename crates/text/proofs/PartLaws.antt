@@ -1,0 +1,223 @@
+-- The parts that separators bound, by the scan for a separator; and the fields of a line, as the parts between the ends that are found.
+-- Assumes nothing.
+use Prim.Native.Nat.{ℕ, zero, suc, _+_, _-_, _≤_, _<_}
+use mathlib.Core.Path.{_≡_, refl, sym, ap, ap₂, _∙_}
+use mathlib.Core.Bool.{Bool, true, false, cond}
+use mathlib.Core.List.{[], _∷_, List}
+use native.Mathlib.Numerals.{add-one, lt-of-le-of-ne}
+use native.Mathlib.Omega.{arith}
+use lib.Dec.{eqb, ltb}
+use lib.ListN.{length, getD, take, drop, length-drop, set, replicate, length-set, getD-replicate, drop-of-length-le}
+use lib.Seq.{drop-cons, drop-drop, getD-drop, take-all, getD-set-same, getD-set-other}
+use borrow.Author.Tests.{eq-eqb, ne-eqb, eqb-true, ltb-true, ltb-false}
+use Rattle.format.specs.Text.{Bytes, partsAt, onto, tab, fieldsOf}
+use Rattle.text.specs.Parts.{before, nextAt, startOf, between, FieldAt, Fielded}
+use native.Mathlib.Nat.{add-zero}
+use Rattle.text.specs.declared.parts.Fields.{Fields}
+
+-- ---- the bytes before the first separator
+
+before-le : (separator : ℕ) (bs : Bytes) → before separator bs ≤ length bs
+unfolding before
+before-le separator [] = omega arith
+before-le separator (b ∷ bs) = by-test (eqb b separator) (before-le separator bs)
+  where
+    by-test : (t : Bool) → before separator bs ≤ length bs → cond t 0 (suc (before separator bs)) ≤ suc (length bs)
+    by-test true h = omega arith
+    by-test false h = omega arith
+
+before-found : (separator : ℕ) (bs : Bytes) → before separator bs < length bs → getD bs (before separator bs) 0 ≡ separator
+unfolding before
+before-found separator [] h = absurd (omega arith)
+before-found separator (b ∷ bs) h = by-test (eqb b separator) refl h (before-found separator bs)
+  where
+    by-test : (t : Bool) → eqb b separator ≡ t → cond t 0 (suc (before separator bs)) < suc (length bs)
+        → (before separator bs < length bs → getD bs (before separator bs) 0 ≡ separator) → getD (b ∷ bs) (cond t 0 (suc (before separator bs))) 0 ≡ separator
+    by-test true e h rest = eqb-true b separator e
+    by-test false e h rest = rest (omega arith)
+
+before-least : (separator : ℕ) (bs : Bytes) (i : ℕ) → i < length bs → getD bs i 0 ≡ separator → before separator bs ≤ i
+unfolding before
+before-least separator [] i h e = absurd (omega arith)
+before-least separator (b ∷ bs) zero h e = rw (eq-eqb b separator e) (omega arith)
+before-least separator (b ∷ bs) (suc i) h e = by-test (eqb b separator) (before-least separator bs i (omega arith) e)
+  where
+    by-test : (t : Bool) → before separator bs ≤ i → cond t 0 (suc (before separator bs)) ≤ suc i
+    by-test true rest = omega arith
+    by-test false rest = omega arith
+
+parts-whole : (separator : ℕ) (bs : Bytes) → before separator bs ≡ length bs → partsAt separator bs ≡ bs ∷ []
+unfolding before partsAt
+parts-whole separator [] e = refl
+parts-whole separator (b ∷ bs) e = by-test (eqb b separator) e (parts-whole separator bs)
+  where
+    by-test : (t : Bool) → cond t 0 (suc (before separator bs)) ≡ suc (length bs) → (before separator bs ≡ length bs → partsAt separator bs ≡ bs ∷ [])
+        → cond t ([] ∷ partsAt separator bs) (onto b (partsAt separator bs)) ≡ (b ∷ bs) ∷ []
+    by-test true e rest = absurd (omega arith)
+    by-test false e rest = ap (onto b) (rest (omega arith))
+
+parts-split : (separator : ℕ) (bs : Bytes) → before separator bs < length bs
+    → partsAt separator bs ≡ take (before separator bs) bs ∷ partsAt separator (drop (suc (before separator bs)) bs)
+unfolding before partsAt
+parts-split separator [] h = absurd (omega arith)
+parts-split separator (b ∷ bs) h = by-test (eqb b separator) h (parts-split separator bs)
+  where
+    by-test : (t : Bool) → cond t 0 (suc (before separator bs)) < suc (length bs)
+        → (before separator bs < length bs → partsAt separator bs ≡ take (before separator bs) bs ∷ partsAt separator (drop (suc (before separator bs)) bs))
+        → cond t ([] ∷ partsAt separator bs) (onto b (partsAt separator bs))
+        ≡ take (cond t 0 (suc (before separator bs))) (b ∷ bs) ∷ partsAt separator (drop (cond t 0 (suc (before separator bs))) bs)
+    by-test true h rest = refl
+    by-test false h rest = ap (onto b) (rest (omega arith))
+
+-- ---- the scan from a place of the bytes
+
+module _ (separator : ℕ) (bs : Bytes) (start : ℕ) where
+  pub next-none : length bs ≤ start → nextAt separator bs start ≡ length bs
+  unfolding nextAt
+  next-none h = omega arith
+
+  pub next-inside : start ≤ length bs → nextAt separator bs start ≡ start + before separator (drop start bs)
+  unfolding nextAt
+  next-inside h = omega (arith, before-le separator (drop start bs), length-drop start bs)
+
+  pub next-found : start ≤ length bs → nextAt separator bs start < length bs → getD bs (nextAt separator bs start) 0 ≡ separator
+  next-found h l =
+      rw (next-inside h, ← getD-drop) (before-found separator (drop start bs) (omega (arith, next-inside h, length-drop start bs)))
+
+  pub next-least : (i : ℕ) → start ≤ i → i < length bs → getD bs i 0 ≡ separator → nextAt separator bs start ≤ i
+  next-least i f l e =
+      let there : start + (i - start) ≡ i = omega arith in
+      let least = before-least separator (drop start bs) (i - start) (omega (arith, length-drop start bs)) (getD-drop start bs (i - start) 0 ∙ ap (λ k. getD bs k 0) there ∙ e) in
+      omega (arith, least, next-inside (omega arith))
+
+  pub next-here : start < length bs → getD bs start 0 ≡ separator → nextAt separator bs start ≡ start
+  unfolding before
+  next-here h e = next-inside (omega arith) ∙ rw (drop-cons bs start 0, eq-eqb _ _ e) (omega arith)
+
+  pub next-later : start < length bs → (getD bs start 0 ≡ separator → ⊥) → nextAt separator bs start ≡ nextAt separator bs (start + 1)
+  unfolding nextAt before
+  next-later h e = rw (add-one start, drop-cons bs start 0, ne-eqb _ _ e) (omega arith)
+
+  pub next-bounds : start ≤ length bs → (start ≤ nextAt separator bs start) × (nextAt separator bs start ≤ length bs)
+  unfolding nextAt
+  next-bounds h = omega arith
+
+  -- no separator at or after `start`: what is left is one part
+  pub last-part : start ≤ length bs → nextAt separator bs start ≡ length bs → partsAt separator (drop start bs) ≡ drop start bs ∷ []
+  last-part h e = parts-whole separator (drop start bs) (omega (arith, next-inside h, length-drop start bs))
+
+  -- a separator: the part before it, and then those after it
+  pub next-part : start ≤ length bs → nextAt separator bs start < length bs
+      → partsAt separator (drop start bs)
+      ≡ take (nextAt separator bs start - start) (drop start bs) ∷ partsAt separator (drop (nextAt separator bs start + 1) bs)
+  next-part h l =
+      let k : ℕ = before separator (drop start bs) in
+      let e : nextAt separator bs start ≡ start + k = next-inside h in
+      let size : k ≡ nextAt separator bs start - start = omega arith in
+      let past : start + suc k ≡ nextAt separator bs start + 1 = omega arith in
+      parts-split separator (drop start bs) (omega (arith, length-drop start bs))
+      ∙ ap₂ (λ n rest. take n (drop start bs) ∷ partsAt separator rest) size (drop-drop (suc k) start bs ∙ ap (λ n. drop n bs) past)
+
+  -- with a separator or not: the first part from `start` on
+  pub first-part : start ≤ length bs
+      → partsAt separator (drop start bs) ≡ take (nextAt separator bs start - start) (drop start bs) ∷ drop 1 (partsAt separator (drop start bs))
+  first-part h = by-test (ltb (nextAt separator bs start) (length bs)) refl
+    where
+      by-test : (t : Bool) → ltb (nextAt separator bs start) (length bs) ≡ t
+          → partsAt separator (drop start bs) ≡ take (nextAt separator bs start - start) (drop start bs) ∷ drop 1 (partsAt separator (drop start bs))
+      by-test true e =
+          let parts = next-part h (ltb-true _ _ e) in
+          parts ∙ ap (λ rest. take (nextAt separator bs start - start) (drop start bs) ∷ rest) (sym (ap (drop 1) parts))
+      by-test false e =
+          let end : nextAt separator bs start ≡ length bs = omega (arith, next-bounds h, ltb-false (nextAt separator bs start) (length bs) e) in
+          let all : length (drop start bs) ≤ nextAt separator bs start - start = omega (arith, length-drop start bs) in
+          let parts = last-part h end in
+          parts ∙ ap₂ (λ part rest. part ∷ rest) (sym (take-all _ (drop start bs) all)) (sym (ap (drop 1) parts))
+
+-- ---- a turn of the reader
+
+-- `count` fields are read, and the next starts at `at`
+pub record Fielding (line : Bytes) (ends : List ℕ) (count at : ℕ) : Type 0 where
+  pub sized : length ends ≡ 7
+  pub few : count ≤ at
+  pub within : at ≤ length line
+  pub rest : drop count (fieldsOf line) ≡ partsAt tab (drop at line)
+  pub begins : count < 7 → startOf ends count ≡ at
+  pub found : (i : ℕ) → i < 7 → i < count → FieldAt line ends i
+  pub unused : (i : ℕ) → i < 7 → count ≤ i → getD ends i 0 ≡ 0
+
+pub fielding-none : (line : Bytes) → Fielding line (replicate 7 0) 0 0
+unfolding fieldsOf
+fielding-none line =
+    record {
+      sized = refl;
+      few = omega arith;
+      within = omega arith;
+      rest = refl;
+      begins = λ _. refl;
+      found = λ i _ h. absurd (omega arith);
+      unused = λ i h _. getD-replicate 7 i 0 0 h;
+    }
+
+-- a turn finds the end of the next field, and writes it down if it is one of the first seven
+module _
+    (line : Bytes) (ends : List ℕ) (count at : ℕ) (f : Fielding line ends count at)
+    (end : ℕ) (is-end : end ≡ nextAt tab line at) (ends′ : List ℕ) (written : ends′ ≡ set ends count end) where
+  pub end-bounds : (at ≤ end) × (end ≤ length line)
+  end-bounds = rw is-end (next-bounds tab line at (f .within))
+
+  field-is : between line at end ≡ getD (fieldsOf line) count []
+  field-is =
+      ap (between line at) is-end
+      ∙ sym (ap (λ parts. getD parts 0 []) (f .rest ∙ first-part tab line at (f .within)))
+      ∙ getD-drop count (fieldsOf line) 0 []
+      ∙ ap (λ i. getD (fieldsOf line) i []) (add-zero count)
+
+  end-other : (i : ℕ) → (i ≡ count → ⊥) → getD ends′ i 0 ≡ getD ends i 0
+  end-other i n = ap (λ l. getD l i 0) written ∙ getD-set-other ends count i end 0 n
+
+  end-here : count < 7 → getD ends′ count 0 ≡ end
+  end-here h = ap (λ l. getD l count 0) written ∙ getD-set-same ends count end 0 (omega (arith, f .sized))
+
+  start-same : (i : ℕ) → i ≤ count → startOf ends′ i ≡ startOf ends i
+  start-same zero h = refl
+  start-same (suc i) h = ap (λ n. n + 1) (end-other i (λ e. omega arith))
+
+  earlier : (i : ℕ) → i < count → FieldAt line ends i → FieldAt line ends′ i
+  earlier i h p =
+      let start = start-same i (omega arith) in
+      let same = end-other i (λ e. omega arith) in
+      record { ordered = rw (start, same) (p .ordered); inside = rw same (p .inside); part = rw (start, same) (p .part) }
+
+  latest : count < 7 → FieldAt line ends′ count
+  latest h =
+      let start = start-same count (omega arith) ∙ f .begins h in
+      record { ordered = rw (start, end-here h) (end-bounds .0); inside = rw (end-here h) (end-bounds .1); part = rw (start, end-here h) field-is }
+
+  found′ : (i : ℕ) → i < 7 → i < count + 1 → FieldAt line ends′ i
+  found′ i h l = by-test (ltb i count) refl
+    where
+      by-test : (t : Bool) → ltb i count ≡ t → FieldAt line ends′ i
+      by-test true e = earlier i (ltb-true i count e) (f .found i h (ltb-true i count e))
+      by-test false e = let last : i ≡ count = omega (arith, ltb-false i count e) in rw last (latest (omega arith))
+
+  unused′ : (i : ℕ) → i < 7 → count + 1 ≤ i → getD ends′ i 0 ≡ 0
+  unused′ i h l = end-other i (λ e. omega arith) ∙ f .unused i h (omega arith)
+
+  pub fielding-more : (end ≡ length line → ⊥) → Fielding line ends′ (count + 1) (end + 1)
+  fielding-more n =
+      let inside : nextAt tab line at < length line = rw is-end at (lt-of-le-of-ne (end-bounds .1) n) in
+      record {
+        sized = ap length written ∙ length-set ends count end ∙ f .sized;
+        few = omega (arith, end-bounds, f .few);
+        within = omega arith;
+        rest = sym (drop-drop 1 count (fieldsOf line)) ∙ ap (drop 1) (f .rest ∙ next-part tab line at (f .within) inside) ∙ ap (λ k. partsAt tab (drop (k + 1) line)) (sym is-end);
+        begins = λ l. rw (add-one count) (ap (λ k. k + 1) (end-here (omega arith)));
+        found = found′;
+        unused = unused′;
+      }
+
+  pub fielded : end ≡ length line → Fielded line (record { count = count + 1; ends = ends′ })
+  fielded h =
+      let one = ap length (f .rest ∙ last-part tab line at (f .within) (sym is-end ∙ h)) in
+      record { counted = omega (arith, one, length-drop count (fieldsOf line)); found = found′; unused = unused′ }

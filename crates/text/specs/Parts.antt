@@ -1,0 +1,41 @@
+-- Where a separator is found, and the fields of a line between the ends that are found.
+use Prim.Native.Nat.{ℕ, zero, suc, _+_, _-_, _≤_, _<_, min}
+use mathlib.Core.Path.{_≡_}
+use mathlib.Core.Bool.{cond}
+use mathlib.Core.List.{List, [], _∷_}
+use lib.Dec.{eqb}
+use lib.ListN.{length, getD, take, drop}
+use Rattle.format.specs.Text.{Bytes, fieldsOf}
+use Rattle.text.specs.declared.parts.Fields.{Fields}
+
+-- how many bytes stand before the first separator, or in all where there is none
+unfoldable pub before : ℕ → Bytes → ℕ
+before separator [] = 0
+before separator (b ∷ bs) = cond (eqb b separator) 0 (suc (before separator bs))
+
+-- the place of the first separator at or after `start`, or the length where there is none
+unfoldable pub nextAt : ℕ → Bytes → ℕ → ℕ
+nextAt separator bs start = min (length bs) (start + before separator (drop start bs))
+
+-- the part from a start to an end
+abbrev pub between : Bytes → ℕ → ℕ → Bytes
+between bs start end = take (end - start) (drop start bs)
+
+-- ---- fields
+
+-- where a field starts: the first at 0, each other one past the end of the field before it
+abbrev pub startOf : List ℕ → ℕ → ℕ
+startOf ends zero = 0
+startOf ends (suc i) = getD ends i 0 + 1
+
+-- the part of the line between the start and the end of field i is field i
+pub record FieldAt (line : Bytes) (ends : List ℕ) (i : ℕ) : Type 0 where
+  pub ordered : startOf ends i ≤ getD ends i 0
+  pub inside : getD ends i 0 ≤ length line
+  pub part : between line (startOf ends i) (getD ends i 0) ≡ getD (fieldsOf line) i []
+
+-- the count of the fields, and the ends of the first seven; an end that is not used is 0
+pub record Fielded (line : Bytes) (f : Fields) : Type 0 where
+  pub counted : f .count ≡ length (fieldsOf line)
+  pub found : (i : ℕ) → i < 7 → i < f .count → FieldAt line (f .ends) i
+  pub unused : (i : ℕ) → i < 7 → f .count ≤ i → getD (f .ends) i 0 ≡ 0
