@@ -13,7 +13,7 @@ use Rattle.format.specs.File.{Row}
 use Rattle.format.specs.Line.{ruleOf}
 use Rattle.format.specs.Tables.{mostRows, mostEntries, mostOnSide}
 use Rattle.format.specs.Tests.{Test, _when_}
-use Rattle.text.specs.Words.{ruleCode}
+use Rattle.text.specs.Words.{noRule, ruleCode}
 use Rattle.text.specs.Numbers.{numberAs, principalAs}
 use Rattle.text.specs.Lists.{listedAs, laidOver}
 use Rattle.text.specs.declared.numbers.Number.{Number}
@@ -57,7 +57,7 @@ isBad Optional.Bad = true
 
 -- every field is well written
 abbrev pub wellOf : Entered → Bool
-wellOf row = isNumber (row .number) && not (eqb (row .rule) 37) && not (isBad (row .principal)) && row .premises .well && row .left .well && row .right .well
+wellOf row = isNumber (row .number) && not (eqb (row .rule) noRule) && not (isBad (row .principal)) && row .premises .well && row .left .well && row .right .well
 
 -- some number of the list is not below `held`
 abbrev pub pastOf : Listed → ℕ → Bool

@@ -5,7 +5,6 @@ ghost use lib.ListN.{length};
 ghost use Rattle.text.specs.Parts.{between, Fielded};
 ghost use Rattle.lines.specs.Lined.{OfKind};
 ghost use Rattle.lines.specs.Drafts.{AtomNumbered, AtomLined};
-use crate::entered::field;
 use crate::numbers::place;
 use crate::state::Counts;
 use crate::state::Stepped;
@@ -16,6 +15,8 @@ use text::names::is_name;
 use text::numbers::Number;
 use text::numbers::read_number;
 use text::parts::Fields;
+use text::parts::field;
+use text::refusals::BAD_LINE;
 
 // The first of the numbers 4 to 6 that applies to an atom, 0 if none does.
 fn atom_number(text: &[u8], names: &[u16], counts: Counts, n: u32, name: &[u8]) -> u32
@@ -53,13 +54,13 @@ pub(crate) fn atom_line(
     ensures { λ r. ⌜ AtomLined (now (text .entry)) start (between (now (text .entry)) start end) counts r (now (names .entry)) (now (names .exit)) ⌝ }
 {
     if fields.count != 3 {
-        return refused(3, counts);
+        return refused(BAD_LINE, counts);
     }
     let line = &text[start..end];
     let number_field = field(line, fields, 1);
     let number = read_number(number_field);
     let Number::Value(n) = number else {
-        return refused(3, counts);
+        return refused(BAD_LINE, counts);
     };
     let name = field(line, fields, 2);
     let refusal = atom_number(text, names, counts, n, name);

@@ -11,9 +11,10 @@ use lib.Dec.{ltb}
 use lib.ListN.{length, getD, take, drop, set, length-append, length-take, length-drop}
 use borrow.Author.Tests.{lt-ltb, le-ltb, ltb-true}
 use Rattle.format.specs.Text.{comma, partsAt, each, is, listOf, numberOf, strictlyRising, _<$>_, _<*>_}
+use Rattle.text.specs.Refusals.{badIfNone}
 use Rattle.text.specs.Parts.{before, nextAt, between}
 use Rattle.text.specs.Numbers.{numberAs, digits, entryAs, numberAt}
-use Rattle.text.specs.Lists.{largest, laidOver, listedAs, ListedInto, entryAt, Holds}
+use Rattle.text.specs.Lists.{largest, laidOver, listedAs, ListedInto, entryAt, Holds, listRefusal, leads, numbersAhead, entriesOf}
 use Rattle.text.specs.declared.numbers.Entry.{Entry}
 use Rattle.text.specs.declared.lists.Listed.{Listed}
 use Rattle.text.proofs.PartLaws.{next-inside, next-found, next-least, next-bounds, next-part, last-part, first-part}
@@ -165,9 +166,14 @@ pub record Listing (field was out : List ℕ) (listed : Listed) (at : ℕ) : Typ
   pub few : length entries ≤ at
   pub within : at ≤ length field
   pub whole : listOf field ≡ entries then each numberOf (partsAt comma (drop at field))
+  pub begun : entriesOf field ≡ entries ++ numbersAhead (partsAt comma (drop at field))
+
+list-refusal : (o : Option (List ℕ)) → listRefusal (listedAs o) ≡ badIfNone o
+list-refusal none = refl
+list-refusal (some xs) = refl
 
 pub listing-none : (field was : List ℕ) → is "-" field ≡ false → Listing field was was (listing 0 0 true) 0
-unfolding listOf laidOver largest strictlyRising
+unfolding listOf entriesOf laidOver largest strictlyRising
 listing-none field was e =
     record {
       entries = [];
@@ -175,14 +181,17 @@ listing-none field was e =
       few = omega arith;
       within = omega arith;
       whole = simp e (sym (then-none (each numberOf (partsAt comma field))));
+      begun = simp e;
     }
 
 pub listed-none : (field was : List ℕ) → is "-" field ≡ true → ListedInto field was was (listing 0 0 true)
-unfolding listOf laidOver largest strictlyRising
+unfolding listOf entriesOf laidOver largest strictlyRising
 listed-none field was e =
     record {
       answer = simp e;
+      refusal = simp e;
       stored = λ xs h. ap (λ xs. laidOver xs was) (some-injective [] xs (sym (simp e) ∙ h));
+      begun = simp e;
       kept = refl;
     }
 
@@ -198,6 +207,12 @@ module _ (field was out : List ℕ) (listed : Listed) (at : ℕ) (l : Listing fi
   unfolding next later
   whole-by o e = l .whole ∙ ap (λ parts. l .entries then each numberOf parts) (first-part comma field at (l .within)) ∙ ap (λ o. l .entries then ((λ y ys. y ∷ ys) <$> o <*> later)) e
 
+  begun-by : (o : Option ℕ) → next ≡ o → entriesOf field ≡ l .entries ++ leads o (numbersAhead (drop 1 (partsAt comma (drop at field))))
+  unfolding next
+  begun-by o e =
+      l .begun ∙ ap (λ parts. l .entries ++ numbersAhead parts) (first-part comma field at (l .within))
+      ∙ ap (λ o. l .entries ++ leads o (numbersAhead (drop 1 (partsAt comma (drop at field))))) e
+
   pub listing-length : length out ≡ length was
   listing-length = ap length (l .holds .stored) ∙ laid-length (l .entries) was
 
@@ -207,8 +222,16 @@ module _ (field was out : List ℕ) (listed : Listed) (at : ℕ) (l : Listing fi
   pub listed-bad : entryAt field at ≡ Entry.Bad → ListedInto field was out (listedAs none)
   unfolding entryAt next
   listed-bad e =
-      let bad : listOf field ≡ none = whole-by none (was-bad next (nextAt comma field at) e) in
-      record { answer = ap listedAs (sym bad); stored = λ xs h. absurd (none-some xs (sym bad ∙ h)); kept = listing-length }
+      let no-number = was-bad next (nextAt comma field at) e in
+      let bad : listOf field ≡ none = whole-by none no-number in
+      let ahead : entriesOf field ≡ l .entries = begun-by none no-number ∙ append-nil (l .entries) in
+      record {
+        answer = ap listedAs (sym bad);
+        refusal = ap badIfNone (sym bad);
+        stored = λ xs h. absurd (none-some xs (sym bad ∙ h));
+        begun = l .holds .stored ∙ ap (λ xs. laidOver xs was) (sym ahead);
+        kept = listing-length;
+      }
     where
       none-some : (xs : List ℕ) → none ≡ some xs → ⊥
       none-some xs e = let z : _≡_ {A = ℕ} 0 1 = cc in omega arith
@@ -224,18 +247,23 @@ module _ (field was out : List ℕ) (listed : Listed) (at : ℕ) (l : Listing fi
     whole-one : listOf field ≡ (l .entries ++ n ∷ []) then later
     whole-one = whole-by (some n) (value-read .0) ∙ then-one (l .entries) n later
 
+    begun-one : entriesOf field ≡ (l .entries ++ n ∷ []) ++ numbersAhead (drop 1 (partsAt comma (drop at field)))
+    begun-one = begun-by (some n) (value-read .0) ∙ sym (append-assoc (l .entries) (n ∷ []) (numbersAhead (drop 1 (partsAt comma (drop at field)))))
+
     module _ (out′ : List ℕ) (listed′ : Listed) (h : Holds (l .entries ++ n ∷ []) was out′ listed′) where
       pub listing-more : (end ≡ length field → ⊥) → Listing field was out′ listed′ (end + 1)
       unfolding later
       listing-more not-last =
           let inside : end < length field = lt-of-le-of-ne (entry-bounds .1) not-last in
-          let rest = next-part comma field at (l .within) (rw (value-read .1) inside) in
+          let next-one = next-part comma field at (l .within) (rw (value-read .1) inside) in
+          let rest = ap (drop 1) next-one ∙ ap (λ k. partsAt comma (drop (k + 1) field)) (value-read .1) in
           record {
             entries = l .entries ++ n ∷ [];
             holds = h;
             few = omega (arith, length-append (l .entries) (n ∷ []), l .few, entry-bounds);
             within = omega arith;
-            whole = whole-one ∙ ap (λ parts. (l .entries ++ n ∷ []) then each numberOf parts) (ap (drop 1) rest ∙ ap (λ k. partsAt comma (drop (k + 1) field)) (value-read .1));
+            whole = whole-one ∙ ap (λ parts. (l .entries ++ n ∷ []) then each numberOf parts) rest;
+            begun = begun-one ∙ ap (λ parts. (l .entries ++ n ∷ []) ++ numbersAhead parts) rest;
           }
 
       pub listed-last : end ≡ length field → ListedInto field was out′ listed′
@@ -244,8 +272,13 @@ module _ (field was out : List ℕ) (listed : Listed) (at : ℕ) (l : Listing fi
           let rest = last-part comma field at (l .within) (value-read .1 ∙ last) in
           let full : listOf field ≡ some (l .entries ++ n ∷ []) =
           whole-one ∙ ap (λ parts. (l .entries ++ n ∷ []) then each numberOf (drop 1 parts)) rest ∙ ap some (append-nil (l .entries ++ n ∷ [])) in
+          let all : entriesOf field ≡ l .entries ++ n ∷ [] =
+          begun-one ∙ ap (λ parts. (l .entries ++ n ∷ []) ++ numbersAhead (drop 1 parts)) rest ∙ append-nil (l .entries ++ n ∷ []) in
+          let answer = h .answer ∙ ap listedAs (sym full) in
           record {
-            answer = h .answer ∙ ap listedAs (sym full);
+            answer = answer;
+            refusal = ap listRefusal answer ∙ list-refusal (listOf field);
             stored = λ ys e. h .stored ∙ ap (λ xs. laidOver xs was) (some-injective _ ys (sym full ∙ e));
+            begun = h .stored ∙ ap (λ xs. laidOver xs was) (sym all);
             kept = ap length (h .stored) ∙ laid-length (l .entries ++ n ∷ []) was;
           }

@@ -3,13 +3,13 @@
 use Prim.Native.Nat.{ℕ, _+_, _≤_, _<_}
 use mathlib.Core.Path.{_≡_, refl}
 use mathlib.Core.Bool.{Bool, true, false, and-false}
+use mathlib.Core.List.{[], _∷_}
 use native.Mathlib.Numerals.{add-one}
+use native.Mathlib.Omega.{arith}
 use lib.ListN.{length, getD, drop, drop-of-length-le}
 use lib.Seq.{drop-cons}
-use Rattle.format.specs.Text.{Bytes, all, isName, isLetter, startsWithLetter}
-use mathlib.Core.List.{[], _∷_}
-use native.Mathlib.Omega.{arith}
 use borrow.Author.Tests.{le-leb, lt-leb}
+use Rattle.format.specs.Text.{Bytes, all, isName, isLetter, startsWithLetter}
 use Rattle.text.specs.Names.{nameByte}
 
 module _ (test : ℕ → Bool) (bs : Bytes) (at : ℕ) where

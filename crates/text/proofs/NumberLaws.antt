@@ -7,19 +7,20 @@ use mathlib.Core.Bool.{true, false, and-false, Bool, cond, _&&_}
 use mathlib.Core.List.{[], _∷_}
 use mathlib.Core.Option.{Option, none, some}
 use native.Mathlib.Omega.{arith}
-use lib.ListN.{length, getD, take, drop, drop-of-length-le}
-use borrow.Author.Tests.{eq-eqb, ne-eqb, le-leb, lt-leb, eqb-true, leb-true, ltb-true, ltb-false}
-use Rattle.format.specs.Text.{Bytes, numberOf, isDigit, all, leadingZero, valueFrom, is, principalOf, _<$>_, comma}
-use Rattle.text.specs.Numbers.{numberAs, principalAs, digits, entryAs, numberAt}
-use Rattle.text.specs.declared.numbers.Number.{Number}
-use Rattle.text.specs.declared.numbers.Optional.{Optional}
 use native.Mathlib.Numerals.{add-one}
 use native.Mathlib.Nat.{pow-suc, pow-le-pow-right}
+use lib.ListN.{length, getD, take, drop, drop-of-length-le}
 use lib.Dec.{eqb, leb, ltb, lit<}
 use lib.Seq.{drop-cons, getD-drop}
-use Rattle.text.specs.Parts.{before}
-use Rattle.text.specs.declared.numbers.Entry.{Entry}
+use borrow.Author.Tests.{eq-eqb, ne-eqb, le-leb, lt-leb, eqb-true, leb-true, ltb-true, ltb-false}
+use Rattle.format.specs.Text.{Bytes, numberOf, isDigit, all, leadingZero, valueFrom, is, principalOf, _<$>_, comma}
 use Rattle.format.proofs.Booleans.{and-true as both}
+use Rattle.text.specs.Refusals.{badIfNone}
+use Rattle.text.specs.Parts.{before}
+use Rattle.text.specs.Numbers.{numberAs, principalAs, digits, entryAs, numberAt, numberRefusal, NumberRead, principalRefusal, PrincipalRead}
+use Rattle.text.specs.declared.numbers.Number.{Number}
+use Rattle.text.specs.declared.numbers.Optional.{Optional}
+use Rattle.text.specs.declared.numbers.Entry.{Entry}
 
 module _ (field : Bytes) where
   pub number-long : 5 < length field → numberOf field ≡ none
@@ -51,6 +52,13 @@ pub number-read : (field : Bytes) → 1 ≤ length field → length field ≤ 5 
 unfolding numberOf
 number-read field h l e d = simp (le-leb _ _ h, le-leb _ _ l, unpadded field e, d)
 
+number-refusal : (o : Option ℕ) → numberRefusal (numberAs o) ≡ badIfNone o
+number-refusal none = refl
+number-refusal (some n) = refl
+
+pub number-answered : (field : Bytes) {r : Number} → r ≡ numberAs (numberOf field) → NumberRead field r
+number-answered field e = record { answer = e; refusal = ap numberRefusal e ∙ number-refusal (numberOf field) }
+
 -- ---- a number or `-`
 
 abbrev pub optional : Number → Optional
@@ -68,6 +76,14 @@ principal-number field e = simp e (by-case (numberOf field))
     by-case : (n : Option ℕ) → principalAs ((λ n. some n) <$> n) ≡ optional (numberAs n)
     by-case none = refl
     by-case (some n) = refl
+
+principal-refusal : (o : Option (Option ℕ)) → principalRefusal (principalAs o) ≡ badIfNone o
+principal-refusal none = refl
+principal-refusal (some none) = refl
+principal-refusal (some (some n)) = refl
+
+pub principal-answered : (field : Bytes) {r : Optional} → r ≡ principalAs (principalOf field) → PrincipalRead field r
+principal-answered field e = record { answer = e; refusal = ap principalRefusal e ∙ principal-refusal (principalOf field) }
 
 -- ---- the digits at the start of some bytes
 

@@ -2,17 +2,17 @@
 -- Assumes nothing.
 use Prim.Native.Nat.{ℕ, zero, suc, _+_, _-_, _≤_, _<_}
 use mathlib.Core.Path.{_≡_, refl, sym, ap, ap₂, _∙_}
-use mathlib.Core.Bool.{Bool, true, false, cond}
-use mathlib.Core.List.{[], _∷_, List}
+use mathlib.Core.Bool.{Bool, true, false, cond, and-false}
+use mathlib.Core.List.{List, [], _∷_}
+use native.Mathlib.Nat.{add-zero}
 use native.Mathlib.Numerals.{add-one, lt-of-le-of-ne}
 use native.Mathlib.Omega.{arith}
 use lib.Dec.{eqb, ltb}
-use lib.ListN.{length, getD, take, drop, length-drop, set, replicate, length-set, getD-replicate, drop-of-length-le}
+use lib.ListN.{length, getD, take, drop, length-drop, set, replicate, length-set, getD-replicate, List·getD-eq-default}
 use lib.Seq.{drop-cons, drop-drop, getD-drop, take-all, getD-set-same, getD-set-other}
-use borrow.Author.Tests.{eq-eqb, ne-eqb, eqb-true, ltb-true, ltb-false}
+use borrow.Author.Tests.{eq-eqb, ne-eqb, lt-ltb, le-ltb, le-leb, lt-leb, eqb-true, ltb-true, ltb-false}
 use Rattle.format.specs.Text.{Bytes, partsAt, onto, tab, fieldsOf}
-use Rattle.text.specs.Parts.{before, nextAt, startOf, between, FieldAt, Fielded}
-use native.Mathlib.Nat.{add-zero}
+use Rattle.text.specs.Parts.{before, nextAt, mostFields, startOf, between, FieldAt, Fielded, fieldBy, FieldPart}
 use Rattle.text.specs.declared.parts.Fields.{Fields}
 
 -- ---- the bytes before the first separator
@@ -138,15 +138,15 @@ module _ (separator : ℕ) (bs : Bytes) (start : ℕ) where
 
 -- `count` fields are read, and the next starts at `at`
 pub record Fielding (line : Bytes) (ends : List ℕ) (count at : ℕ) : Type 0 where
-  pub sized : length ends ≡ 7
+  pub sized : length ends ≡ mostFields
   pub few : count ≤ at
   pub within : at ≤ length line
   pub rest : drop count (fieldsOf line) ≡ partsAt tab (drop at line)
-  pub begins : count < 7 → startOf ends count ≡ at
-  pub found : (i : ℕ) → i < 7 → i < count → FieldAt line ends i
-  pub unused : (i : ℕ) → i < 7 → count ≤ i → getD ends i 0 ≡ 0
+  pub begins : count < mostFields → startOf ends count ≡ at
+  pub found : (i : ℕ) → i < mostFields → i < count → FieldAt line ends i
+  pub unused : (i : ℕ) → i < mostFields → count ≤ i → getD ends i 0 ≡ 0
 
-pub fielding-none : (line : Bytes) → Fielding line (replicate 7 0) 0 0
+pub fielding-none : (line : Bytes) → Fielding line (replicate mostFields 0) 0 0
 unfolding fieldsOf
 fielding-none line =
     record {
@@ -156,10 +156,10 @@ fielding-none line =
       rest = refl;
       begins = λ _. refl;
       found = λ i _ h. absurd (omega arith);
-      unused = λ i h _. getD-replicate 7 i 0 0 h;
+      unused = λ i h _. getD-replicate mostFields i 0 0 h;
     }
 
--- a turn finds the end of the next field, and writes it down if it is one of the first seven
+-- a turn finds the end of the next field, and writes it down if it is one of the first ones
 module _
     (line : Bytes) (ends : List ℕ) (count at : ℕ) (f : Fielding line ends count at)
     (end : ℕ) (is-end : end ≡ nextAt tab line at) (ends′ : List ℕ) (written : ends′ ≡ set ends count end) where
@@ -176,7 +176,7 @@ module _
   end-other : (i : ℕ) → (i ≡ count → ⊥) → getD ends′ i 0 ≡ getD ends i 0
   end-other i n = ap (λ l. getD l i 0) written ∙ getD-set-other ends count i end 0 n
 
-  end-here : count < 7 → getD ends′ count 0 ≡ end
+  end-here : count < mostFields → getD ends′ count 0 ≡ end
   end-here h = ap (λ l. getD l count 0) written ∙ getD-set-same ends count end 0 (omega (arith, f .sized))
 
   start-same : (i : ℕ) → i ≤ count → startOf ends′ i ≡ startOf ends i
@@ -189,19 +189,19 @@ module _
       let same = end-other i (λ e. omega arith) in
       record { ordered = rw (start, same) (p .ordered); inside = rw same (p .inside); part = rw (start, same) (p .part) }
 
-  latest : count < 7 → FieldAt line ends′ count
+  latest : count < mostFields → FieldAt line ends′ count
   latest h =
       let start = start-same count (omega arith) ∙ f .begins h in
       record { ordered = rw (start, end-here h) (end-bounds .0); inside = rw (end-here h) (end-bounds .1); part = rw (start, end-here h) field-is }
 
-  found′ : (i : ℕ) → i < 7 → i < count + 1 → FieldAt line ends′ i
+  found′ : (i : ℕ) → i < mostFields → i < count + 1 → FieldAt line ends′ i
   found′ i h l = by-test (ltb i count) refl
     where
       by-test : (t : Bool) → ltb i count ≡ t → FieldAt line ends′ i
       by-test true e = earlier i (ltb-true i count e) (f .found i h (ltb-true i count e))
       by-test false e = let last : i ≡ count = omega (arith, ltb-false i count e) in rw last (latest (omega arith))
 
-  unused′ : (i : ℕ) → i < 7 → count + 1 ≤ i → getD ends′ i 0 ≡ 0
+  unused′ : (i : ℕ) → i < mostFields → count + 1 ≤ i → getD ends′ i 0 ≡ 0
   unused′ i h l = end-other i (λ e. omega arith) ∙ f .unused i h (omega arith)
 
   pub fielding-more : (end ≡ length line → ⊥) → Fielding line ends′ (count + 1) (end + 1)
@@ -221,3 +221,76 @@ module _
   fielded h =
       let one = ap length (f .rest ∙ last-part tab line at (f .within) (sym is-end ∙ h)) in
       record { counted = omega (arith, one, length-drop count (fieldsOf line)); found = found′; unused = unused′ }
+
+-- ---- a field by the ends that were read
+
+start-first : (ends : List ℕ) (i : ℕ) → i ≡ 0 → startOf ends i ≡ 0
+start-first ends zero h = refl
+start-first ends (suc i) h = absurd (omega arith)
+
+start-past : (ends : List ℕ) (i : ℕ) → (i ≡ 0 → ⊥) → startOf ends i ≡ getD ends (i - 1) 0 + 1
+start-past ends zero h = absurd (h refl)
+start-past ends (suc i) h = let e : i ≡ suc i - 1 = omega arith in ap (λ k. getD ends k 0 + 1) e
+
+module _ (line : Bytes) (f : Fields) (i : ℕ) where
+  by-ends : i < mostFields → i < f .count → startOf (f .ends) i ≤ getD (f .ends) i 0 → getD (f .ends) i 0 ≤ length line
+      → fieldBy line f i ≡ between line (startOf (f .ends) i) (getD (f .ends) i 0)
+  unfolding fieldBy
+  by-ends few there ordered inside = simp (lt-ltb i mostFields few, lt-ltb i (f .count) there, le-leb _ _ ordered, le-leb _ _ inside)
+
+  none-by-most : mostFields ≤ i → fieldBy line f i ≡ []
+  unfolding fieldBy
+  none-by-most h = simp (le-ltb i mostFields h)
+
+  none-by-count : f .count ≤ i → fieldBy line f i ≡ []
+  unfolding fieldBy
+  none-by-count h = simp (le-ltb i (f .count) h, and-false)
+
+  none-by-start : getD (f .ends) i 0 < startOf (f .ends) i → fieldBy line f i ≡ []
+  unfolding fieldBy
+  none-by-start h = simp (lt-leb (startOf (f .ends) i) (getD (f .ends) i 0) h, and-false)
+
+  none-by-end : length line < getD (f .ends) i 0 → fieldBy line f i ≡ []
+  unfolding fieldBy
+  none-by-end h = simp (lt-leb (getD (f .ends) i 0) (length line) h, and-false)
+
+  -- by the fields of this line
+  field-found : Fielded line f → i < mostFields → fieldBy line f i ≡ getD (fieldsOf line) i []
+  field-found p few = by-test (ltb i (f .count)) refl
+    where
+      by-test : (t : Bool) → ltb i (f .count) ≡ t → fieldBy line f i ≡ getD (fieldsOf line) i []
+      by-test true e =
+          let there = ltb-true i (f .count) e in
+          let found = p .found i few there in
+          by-ends few there (found .ordered) (found .inside) ∙ found .part
+      by-test false e =
+          let past : length (fieldsOf line) ≤ i = omega (arith, p .counted, ltb-false i (f .count) e) in
+          none-by-count (ltb-false i (f .count) e) ∙ sym (List·getD-eq-default (fieldsOf line) [] past)
+
+  field-part : {r : Bytes} → fieldBy line f i ≡ r → FieldPart line f i r
+  field-part e = record { part = sym e; field = λ p few. sym e ∙ field-found p few }
+
+  pub no-field-most : mostFields ≤ i → FieldPart line f i []
+  no-field-most h = field-part (none-by-most h)
+
+  pub no-field-count : f .count ≤ i → FieldPart line f i []
+  no-field-count h = field-part (none-by-count h)
+
+  pub no-field-end : length line < getD (f .ends) i 0 → FieldPart line f i []
+  no-field-end h = field-part (none-by-end h)
+
+  pub no-field-start : (i ≡ 0 → ⊥) → getD (f .ends) i 0 ≤ getD (f .ends) (i - 1) 0 → FieldPart line f i []
+  no-field-start n h = field-part (none-by-start (omega (arith, start-past (f .ends) i n)))
+
+  module _ (few : i < mostFields) (there : i < f .count) (inside : getD (f .ends) i 0 ≤ length line) where
+    pub field-first : i ≡ 0 → FieldPart line f i (take (getD (f .ends) i 0) line)
+    field-first h =
+        let start = start-first (f .ends) i h in
+        let size : getD (f .ends) i 0 - 0 ≡ getD (f .ends) i 0 = omega arith in
+        field-part (by-ends few there (omega arith) inside ∙ ap (λ k. between line k (getD (f .ends) i 0)) start ∙ ap (λ n. take n line) size)
+
+    pub field-later : (i ≡ 0 → ⊥) → getD (f .ends) (i - 1) 0 < getD (f .ends) i 0
+        → FieldPart line f i (between line (getD (f .ends) (i - 1) 0 + 1) (getD (f .ends) i 0))
+    field-later n h =
+        let start = start-past (f .ends) i n in
+        field-part (by-ends few there (omega arith) inside ∙ ap (λ k. between line k (getD (f .ends) i 0)) start)

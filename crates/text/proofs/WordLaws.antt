@@ -2,21 +2,23 @@
 -- Assumes nothing.
 use Prim.Native.Nat.{ℕ, zero, suc, _+_, _-_, _*_, _^_, _≤_, _<_}
 use mathlib.Core.Path.{_≡_, refl, sym, ap, ap₂, _∙_}
-use mathlib.Core.Bool.{Bool, true, false, cond, and-true, and-false, true≢false, false≢true, _&&_}
+use mathlib.Core.Bool.{Bool, true, false, cond, and-true, and-false, true≢false, false≢true, _&&_, _||_}
 use mathlib.Core.List.{[], _∷_, List}
+use mathlib.Core.Option.{some}
 use native.Mathlib.Nat.{pow-suc, pow-le-pow-right}
 use native.Mathlib.Omega.{arith}
 use lib.Dec.{eqb, leb, ltb, lit<}
 use lib.ListN.{length, getD, drop, length-drop}
 use lib.Seq.{drop-cons, drop-length, getD-drop}
 use borrow.Author.Tests.{eq-eqb, ne-eqb, eqb-true, leb-true, ltb-true}
-use Rattle.format.specs.Text.{Bytes, sameList, all, bytes, is}
-use Rattle.text.specs.Words.{kindOf, formulaWord, ruleCode, keyOf, IsKey, isShort, wordKey, codeAmong}
-use Rattle.format.proofs.Booleans.{and-true as both}
-use Rattle.text.specs.declared.words.Kind.the-variants.{Atom, Formula, Row, Claim, Unknown}
-use mathlib.Core.Option.{some}
 use Rattle.elk.specs.Rules.{Rule, rules, codeOf, wordOf}
+use Rattle.format.specs.Text.{Bytes, sameList, all, bytes, is}
 use Rattle.format.specs.Line.{ruleAmong, ruleOf}
+use Rattle.format.proofs.Booleans.{and-true as both}
+use Rattle.text.specs.Refusals.{badUnless}
+use Rattle.text.specs.Words.{kindOf, formulaWord, ruleCode, keyOf, IsKey, isShort, wordKey, codeAmong, noWord, noRule, kindRefusal, KindRead}
+use Rattle.text.specs.declared.words.Kind.the-variants.{Atom, Formula, Row, Claim, Unknown}
+use Rattle.text.specs.declared.words.Kind.{Kind}
 
 -- ---- one byte
 
@@ -41,11 +43,24 @@ pub kind-byte : (field : Bytes) → length field ≡ 1
 unfolding kindOf
 kind-byte field h = simp (one-byte field 65 h, one-byte field 70 h, one-byte field 78 h, one-byte field 67 h)
 
+kind-refusal : (a f n c : Bool)
+    → kindRefusal (cond a Atom (cond f Formula (cond n Row (cond c Claim Unknown)))) ≡ badUnless (a || f || n || c)
+kind-refusal true f n c = refl
+kind-refusal false true n c = refl
+kind-refusal false false true c = refl
+kind-refusal false false false true = refl
+kind-refusal false false false false = refl
+
+pub kind-answered : (field : Bytes) {r : Kind} → r ≡ kindOf field → KindRead field r
+unfolding kindOf
+kind-answered field e =
+    record { answer = e; refusal = ap kindRefusal e ∙ kind-refusal (is "A" field) (is "F" field) (is "N" field) (is "C" field) }
+
 -- ---- keys
 
 pub formula-key : (field : Bytes) (key : ℕ) → IsKey field key
     → formulaWord field
-    ≡ cond (eqb key 0x1746f62) 0 (cond (eqb key 0x16d6f7461) 1 (cond (eqb key 0x1746f6e) 2 (cond (eqb key 0x1646e61) 3 (cond (eqb key 0x1726f) 4 (cond (eqb key 0x1706d69) 5 6)))))
+    ≡ cond (eqb key 0x1746f62) 0 (cond (eqb key 0x16d6f7461) 1 (cond (eqb key 0x1746f6e) 2 (cond (eqb key 0x1646e61) 3 (cond (eqb key 0x1726f) 4 (cond (eqb key 0x1706d69) 5 noWord)))))
 unfolding formulaWord keyOf
 formula-key field key k =
     simp (sym (k (bytes "bot") refl), sym (k (bytes "atom") refl), sym (k (bytes "not") refl), sym (k (bytes "and") refl), sym (k (bytes "or") refl), sym (k (bytes "imp") refl))
@@ -150,13 +165,13 @@ abbrev NoneOf : Type 0 → List Rule → ℕ → Type 0
 NoneOf N [] key = N
 NoneOf N (r ∷ rs) key = NoneOf (N × (key ≡ wordKey r → ⊥)) rs key
 
-none-of : (N : Type 0) (rs : List Rule) (key : ℕ) → NoneOf N rs key → N × (codeAmong rs key ≡ 37)
+none-of : (N : Type 0) (rs : List Rule) (key : ℕ) → NoneOf N rs key → N × (codeAmong rs key ≡ noRule)
 none-of N [] key left = (left, refl)
 none-of N (r ∷ rs) key left = let rest = none-of (N × (key ≡ wordKey r → ⊥)) rs key left in (rest .0 .0, by-test (eqb key (wordKey r)) refl (rest .0 .1) (rest .1))
   where
-    by-test : (t : Bool) → eqb key (wordKey r) ≡ t → (key ≡ wordKey r → ⊥) → codeAmong rs key ≡ 37 → cond t (codeOf r) (codeAmong rs key) ≡ 37
+    by-test : (t : Bool) → eqb key (wordKey r) ≡ t → (key ≡ wordKey r → ⊥) → codeAmong rs key ≡ noRule → cond t (codeOf r) (codeAmong rs key) ≡ noRule
     by-test true e other rest = absurd (other (eqb-true _ _ e))
     by-test false e other rest = rest
 
-pub no-rule : (key : ℕ) → NoneOf (Unit {0}) rules key → codeAmong rules key ≡ 37
+pub no-rule : (key : ℕ) → NoneOf (Unit {0}) rules key → codeAmong rules key ≡ noRule
 no-rule key left = none-of (Unit {0}) rules key left .1

@@ -1,3 +1,4 @@
+pub mod Refusals
 pub mod Parts
 pub mod Numbers
 pub mod Lists

@@ -1,11 +1,12 @@
 -- What the reader of a list answers and stores, as a function of what the field writes (`Rattle.format.specs.Text`).
 use Prim.Native.Nat.{ℕ, min, max}
 use mathlib.Core.Path.{_≡_}
-use mathlib.Core.Bool.{true, false}
+use mathlib.Core.Bool.{true, false, cond}
 use mathlib.Core.List.{List, [], _∷_}
 use mathlib.Core.Option.{Option, none, some}
 use lib.ListN.{length}
-use Rattle.format.specs.Text.{Bytes, comma, numberOf, listOf, strictlyRising}
+use Rattle.format.specs.Text.{Bytes, comma, partsAt, is, numberOf, listOf, strictlyRising}
+use Rattle.text.specs.Refusals.{badUnless, badIfNone}
 use Rattle.text.specs.Parts.{nextAt, between}
 use Rattle.text.specs.Numbers.{numberAs, entryAs}
 use Rattle.text.specs.declared.numbers.Entry.{Entry}
@@ -26,10 +27,32 @@ abbrev pub listedAs : Option (List ℕ) → Listed
 listedAs none = record { well = false; count = 0; largest = 0; rising = false }
 listedAs (some xs) = record { well = true; count = length xs; largest = largest xs; rising = strictlyRising xs }
 
--- the answer, and the table as it was and as it is left: where the list is badly written only its length is known
+-- the refusal number of an answer
+abbrev pub listRefusal : Listed → Option ℕ
+listRefusal listed = badUnless (listed .well)
+
+-- a number in front of others; nothing at all where it is badly written
+abbrev pub leads : Option ℕ → List ℕ → List ℕ
+leads none ns = []
+leads (some n) ns = n ∷ ns
+
+-- the numbers of the parts before the first one that is no number
+abbrev pub numbersAhead : List Bytes → List ℕ
+numbersAhead [] = []
+numbersAhead (part ∷ parts) = leads (numberOf part) (numbersAhead parts)
+
+-- the entries that a field writes before the first one that is badly written: all of them where the list is well written
+unfoldable pub entriesOf : Bytes → List ℕ
+entriesOf field = cond (is "-" field) [] (numbersAhead (partsAt comma field))
+
+-- the answer, and the table as it was and as it is left
 pub record ListedInto (field : Bytes) (was is : List ℕ) (r : Listed) : Type 0 where
   pub answer : r ≡ listedAs (listOf field)
+  pub refusal : listRefusal r ≡ badIfNone (listOf field)
+  -- a list that is well written is stored
   pub stored : (xs : List ℕ) → listOf field ≡ some xs → is ≡ laidOver xs was
+  -- and of any list what stands before the first entry that is badly written
+  pub begun : is ≡ laidOver (entriesOf field) was
   pub kept : length is ≡ length was
 
 -- ---- an entry

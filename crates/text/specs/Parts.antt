@@ -1,9 +1,9 @@
 -- Where a separator is found, and the fields of a line between the ends that are found.
 use Prim.Native.Nat.{ℕ, zero, suc, _+_, _-_, _≤_, _<_, min}
 use mathlib.Core.Path.{_≡_}
-use mathlib.Core.Bool.{cond}
+use mathlib.Core.Bool.{Bool, cond, _&&_}
 use mathlib.Core.List.{List, [], _∷_}
-use lib.Dec.{eqb}
+use lib.Dec.{eqb, leb, ltb}
 use lib.ListN.{length, getD, take, drop}
 use Rattle.format.specs.Text.{Bytes, fieldsOf}
 use Rattle.text.specs.declared.parts.Fields.{Fields}
@@ -23,6 +23,10 @@ between bs start end = take (end - start) (drop start bs)
 
 -- ---- fields
 
+-- the most fields that a line has: those of an N line
+abbrev pub mostFields : ℕ
+mostFields = 7
+
 -- where a field starts: the first at 0, each other one past the end of the field before it
 abbrev pub startOf : List ℕ → ℕ → ℕ
 startOf ends zero = 0
@@ -34,8 +38,21 @@ pub record FieldAt (line : Bytes) (ends : List ℕ) (i : ℕ) : Type 0 where
   pub inside : getD ends i 0 ≤ length line
   pub part : between line (startOf ends i) (getD ends i 0) ≡ getD (fieldsOf line) i []
 
--- the count of the fields, and the ends of the first seven; an end that is not used is 0
+-- the count of the fields, and the ends of the first of them; an end that is not used is 0
 pub record Fielded (line : Bytes) (f : Fields) : Type 0 where
   pub counted : f .count ≡ length (fieldsOf line)
-  pub found : (i : ℕ) → i < 7 → i < f .count → FieldAt line (f .ends) i
-  pub unused : (i : ℕ) → i < 7 → f .count ≤ i → getD (f .ends) i 0 ≡ 0
+  pub found : (i : ℕ) → i < mostFields → i < f .count → FieldAt line (f .ends) i
+  pub unused : (i : ℕ) → i < mostFields → f .count ≤ i → getD (f .ends) i 0 ≡ 0
+
+-- where field i starts and ends, by the ends that were read: there is such a field, and these lie in order inside the line
+abbrev pub standsIn : Bytes → Fields → ℕ → Bool
+standsIn line f i = ltb i mostFields && ltb i (f .count) && leb (startOf (f .ends) i) (getD (f .ends) i 0) && leb (getD (f .ends) i 0) (length line)
+
+-- field i by the ends that were read, of whichever line; empty where it does not stand in this one
+unfoldable pub fieldBy : Bytes → Fields → ℕ → Bytes
+fieldBy line f i = cond (standsIn line f i) (between line (startOf (f .ends) i) (getD (f .ends) i 0)) []
+
+-- the part that field i is, by the fields as they were read; where they are those of this line it is its field i
+pub record FieldPart (line : Bytes) (f : Fields) (i : ℕ) (r : Bytes) : Type 0 where
+  pub part : r ≡ fieldBy line f i
+  pub field : Fielded line f → i < mostFields → r ≡ getD (fieldsOf line) i []

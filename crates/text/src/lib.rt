@@ -5,4 +5,5 @@ pub mod lists;
 pub mod names;
 pub mod numbers;
 pub mod parts;
+pub mod refusals;
 pub mod words;

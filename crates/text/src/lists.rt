@@ -93,8 +93,8 @@ fn enter(listed: Listed, n: u32, out: &mut [u16]) -> Listed
     entered(listed, n)
 }
 
-// The list that a field writes, read to its end. Its entries are stored into `out`, as far as that is long; where the list is badly
-// written, what `out` holds is left free.
+// The list that a field writes, read to its end. Its entries are stored into `out`, as far as that is long; of a badly written
+// list those before the first bad one.
 pub fn read_list(field: &[u8], out: &mut [u16]) -> Listed
     ensures { λ r. ⌜ ListedInto (now (field .entry)) (now (out .entry)) (now (out .exit)) r ⌝ }
 {

@@ -2,8 +2,8 @@
 ghost use mathlib.Core.Path.{_≡_};
 ghost use Prim.Native.Nat.{_≤_};
 ghost use lib.ListN.{length};
-ghost use Rattle.format.specs.Text.{isDigit, numberOf, principalOf};
-ghost use Rattle.text.specs.Numbers.{numberAs, principalAs, numberAt};
+ghost use Rattle.format.specs.Text.{isDigit};
+ghost use Rattle.text.specs.Numbers.{NumberRead, PrincipalRead, numberAt};
 use crate::parts::is_dash;
 
 // A number is at most 99,999, so that a value never wraps.
@@ -63,7 +63,7 @@ pub(crate) fn number_at(field: &[u8], at: usize) -> Entry
 
 // The number that a field writes.
 pub fn read_number(field: &[u8]) -> Number
-    ensures { λ r. ⌜ r ≡ numberAs (numberOf (now (field .entry))) ⌝ }
+    ensures { λ r. ⌜ NumberRead (now (field .entry)) r ⌝ }
 {
     let number = number_at(field, 0);
     let Entry::Value(n, end) = number else {
@@ -83,7 +83,7 @@ pub enum Optional {
 
 // The principal formula that a field names, or `-`.
 pub fn read_principal(field: &[u8]) -> Optional
-    ensures { λ r. ⌜ r ≡ principalAs (principalOf (now (field .entry))) ⌝ }
+    ensures { λ r. ⌜ PrincipalRead (now (field .entry)) r ⌝ }
 {
     if is_dash(field) {
         return Optional::Absent;

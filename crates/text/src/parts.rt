@@ -4,7 +4,7 @@ ghost use mathlib.Core.Bool.{true};
 ghost use Prim.Native.Nat.{_+_, _≤_};
 ghost use lib.ListN.{length};
 ghost use Rattle.format.specs.Text.{tab, is};
-ghost use Rattle.text.specs.Parts.{nextAt, Fielded};
+ghost use Rattle.text.specs.Parts.{nextAt, Fielded, FieldPart};
 
 // The index of the first such byte at or after `from`, or the length of `bytes` where there is none.
 fn find_near(bytes: &[u8], from: usize, byte: u8) -> usize
@@ -68,23 +68,26 @@ fn field_end(line: &[u8], at: usize) -> usize
     find(line, at, b'\t')
 }
 
-// How many fields a line has, and where each of the first seven ends. Field 0 starts at 0, and each other one past the end of
+// The most fields that a line has: those of an N line.
+pub const MOST_FIELDS: usize = 7;
+
+// How many fields a line has, and where each of the first ones ends. Field 0 starts at 0, and each other one past the end of
 // the field before it. An end that is not used is 0.
 pub struct Fields {
     pub count: usize,
-    pub ends: [usize; 7],
+    pub ends: [usize; MOST_FIELDS],
 }
 
 // The fields of a line, counted to its end.
 pub fn read_fields(line: &[u8]) -> Fields
     ensures { λ r. ⌜ Fielded (now (line .entry)) r ⌝ }
 {
-    let mut ends = [0usize; 7];
+    let mut ends = [0usize; MOST_FIELDS];
     let mut count: usize = 0;
     let mut at: usize = 0;
     loop {
         let end = field_end(line, at);
-        if count < 7 {
+        if count < MOST_FIELDS {
             ends[count] = end;
         }
         count += 1;
@@ -93,6 +96,32 @@ pub fn read_fields(line: &[u8]) -> Fields
         }
         at = end + 1;
     }
+}
+
+// Field i of a line, by its fields as they were read; empty where there is no such field, or where it does not stand in this
+// line.
+pub fn field(line: &[u8], fields: Fields, i: usize) -> &[u8]
+    ensures { λ r. ⌜ FieldPart (now (line .entry)) fields i (now r) ⌝ }
+{
+    if i >= MOST_FIELDS {
+        return &line[..0];
+    }
+    if i >= fields.count {
+        return &line[..0];
+    }
+    let end = fields.ends[i];
+    if end > line.len() {
+        return &line[..0];
+    }
+    if i == 0 {
+        return &line[..end];
+    }
+    let before = fields.ends[i - 1];
+    if before >= end {
+        return &line[..0];
+    }
+    let start = before + 1;
+    &line[start..end]
 }
 
 // The field is `-`.

@@ -2,7 +2,7 @@
 ghost use mathlib.Core.Path.{_≡_};
 ghost use Rattle.elk.specs.Rules.{rules};
 ghost use Rattle.format.specs.Line.{ruleOf};
-ghost use Rattle.text.specs.Words.{kindOf, formulaWord, ruleCode, IsKey, codeAmong};
+ghost use Rattle.text.specs.Words.{KindRead, formulaWord, ruleCode, IsKey, codeAmong};
 
 pub enum Kind {
     Atom,
@@ -14,7 +14,7 @@ pub enum Kind {
 
 // The kind of line that its first field names.
 pub fn line_kind(field: &[u8]) -> Kind
-    ensures { λ r. ⌜ r ≡ kindOf (now (field .entry)) ⌝ }
+    ensures { λ r. ⌜ KindRead (now (field .entry)) r ⌝ }
 {
     if field.len() != 1 {
         return Kind::Unknown;
@@ -71,7 +71,10 @@ const OR: u64 = 0x1726f;
 
 const IMP: u64 = 0x1706d69;
 
-// The word of an F line: 0 to 5, or 6 for any other.
+// The number of a word that is none of an F line's.
+pub const NO_WORD: u32 = 6;
+
+// The word of an F line: 0 to 5, or `NO_WORD` for any other.
 pub fn formula_word(field: &[u8]) -> u32
     ensures { λ r. ⌜ r ≡ formulaWord (now (field .entry)) ⌝ }
 {
@@ -94,10 +97,13 @@ pub fn formula_word(field: &[u8]) -> u32
     if key == IMP {
         return 5;
     }
-    6
+    NO_WORD
 }
 
-// The code of the rule whose word has this key; 37 for any other.
+// The code of a word that is no rule's.
+pub const NO_RULE: u32 = 65535;
+
+// The code of the rule whose word has this key; `NO_RULE` for any other.
 fn rule_of_key(key: u64) -> u32
     ensures { λ r. ⌜ r ≡ codeAmong rules key ⌝ }
 {
@@ -139,11 +145,11 @@ fn rule_of_key(key: u64) -> u32
         0x16c726f6e78 => 34, // xnorl
         0x13172726f6e78 => 35, // xnorr1
         0x13272726f6e78 => 36, // xnorr2
-        _ => 37,
+        _ => NO_RULE,
     }
 }
 
-// The code of the rule whose word this is; 37 for any other.
+// The code of the rule whose word this is; `NO_RULE` for any other.
 pub fn rule_word(field: &[u8]) -> u32
     ensures { λ r. ⌜ r ≡ ruleCode (ruleOf (now (field .entry))) ⌝ }
 {

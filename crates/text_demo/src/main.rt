@@ -2,7 +2,7 @@
 // can be written.
 ghost use mathlib.Core.Path.{_≡_};
 ghost use mathlib.Core.List.{[]};
-ghost use lib.ListN.{length, getD};
+ghost use lib.ListN.{getD};
 ghost use Rattle.format.specs.Text.{fieldsOf};
 use libc::STDOUT_FILENO;
 use text::numbers::Number;
@@ -107,25 +107,19 @@ fn show_kind(field: &[u8]) {
     put(b"\n");
 }
 
-// The third field of a line that has three; the empty part of any other.
+// The third field of a line; empty where it has none.
 fn third(line: &[u8]) -> &[u8]
-    ensures { λ r. ⌜ (length (fieldsOf (now (line .entry))) ≡ 3 → now r ≡ getD (fieldsOf (now (line .entry))) 2 []) ⌝ }
+    ensures { λ r. ⌜ now r ≡ getD (fieldsOf (now (line .entry))) 2 [] ⌝ }
 {
     let fields = text::parts::read_fields(line);
-    if fields.count != 3 {
-        return &line[..0];
-    }
-    let ends = fields.ends;
-    let start = ends[1] + 1;
-    let end = ends[2];
-    &line[start..end]
+    text::parts::field(line, fields, 2)
 }
 
 fn show_line(line: &[u8]) {
     put_head(b"line", line);
     let fields = text::parts::read_fields(line);
     put_decimal(fields.count as u64);
-    put(b" fields, the third of three [");
+    put(b" fields, the third [");
     put(third(line));
     put(b"]\n");
 }

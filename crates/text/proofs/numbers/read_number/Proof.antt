@@ -3,7 +3,7 @@ use mathlib.Core.Path.{refl, sym, ap, _∙_}
 use native.Mathlib.Omega.{arith}
 use borrow.Author.Needs.{needs}
 use Rattle.text.specs.Numbers.{numberAs}
-use Rattle.text.proofs.NumberLaws.{part-bad, part-cut, part-full}
+use Rattle.text.proofs.NumberLaws.{number-answered, part-bad, part-cut, part-full}
 use Rattle.text.proofs.numbers.read_number.Statement.{statement}
 use Rattle.text.proofs.numbers.read_number.Tie as tie
 
@@ -17,17 +17,17 @@ enum-told : tie.Need-enum-told
 enum-told c = search needs
 
 returns : tie.Need-returns
-returns c = ap numberAs (sym (part-bad _ 0 _ refl (sym (c .before .before .number-at .ensures) ∙ c .enum-told .given .1)))
+returns c = number-answered _ (ap numberAs (sym (part-bad _ 0 _ refl (sym (c .before .before .number-at .ensures) ∙ c .enum-told .given .1))))
 
 returns-2 : tie.Need-returns-2
 returns-2 c =
     let number = c .before .before in
-    ap numberAs (sym (part-cut _ 0 _ refl _ _ (sym (number .before .before .number-at .ensures) ∙ number .number .given .1) (omega arith)))
+    number-answered _ (ap numberAs (sym (part-cut _ 0 _ refl _ _ (sym (number .before .before .number-at .ensures) ∙ number .number .given .1) (omega arith))))
 
 returns-3 : tie.Need-returns-3
 returns-3 c =
     let number = c .before .before in
-    ap numberAs (sym (part-full _ 0 _ refl _ _ (sym (number .before .before .number-at .ensures) ∙ number .number .given .1) (omega arith)))
+    number-answered _ (ap numberAs (sym (part-full _ 0 _ refl _ _ (sym (number .before .before .number-at .ensures) ∙ number .number .given .1) (omega arith))))
 
 pub read-number-spec : {M : Type 1} → statement M
 read-number-spec =

@@ -1,7 +1,7 @@
 -- `text::numbers::read_principal` meets its contract. Assumes nothing.
 use mathlib.Core.Path.{sym, ap, _∙_}
 use borrow.Author.Needs.{needs}
-use Rattle.text.proofs.NumberLaws.{optional, principal-absent, principal-number}
+use Rattle.text.proofs.NumberLaws.{optional, principal-absent, principal-number, principal-answered}
 use Rattle.text.proofs.numbers.read_principal.Statement.{statement}
 use Rattle.text.proofs.numbers.read_principal.Tie as tie
 
@@ -9,7 +9,7 @@ is-dash-requires : tie.Need-is-dash-requires
 is-dash-requires c κs = search needs
 
 returns : tie.Need-returns
-returns c = sym (principal-absent _ (sym (c .before .is-dash .ensures) ∙ c .if1 .taken))
+returns c = principal-answered _ (sym (principal-absent _ (sym (c .before .is-dash .ensures) ∙ c .if1 .taken)))
 
 read-number-requires : tie.Need-read-number-requires
 read-number-requires c κs = search needs
@@ -23,12 +23,12 @@ enum-told c = search needs
 returns-2 : tie.Need-returns-2
 returns-2 c =
     let called = c .before .before .before in
-    sym (principal-number _ (sym (called .before .before .is-dash .ensures) ∙ called .before .if1 .left) ∙ ap optional (sym (called .read-number .ensures) ∙ c .before .number .given .1))
+    principal-answered _ (sym (principal-number _ (sym (called .before .before .is-dash .ensures) ∙ called .before .if1 .left) ∙ ap optional (sym (called .read-number .ensures .answer) ∙ c .before .number .given .1)))
 
 returns-3 : tie.Need-returns-3
 returns-3 c =
     let called = c .before .before in
-    sym (principal-number _ (sym (called .before .before .is-dash .ensures) ∙ called .before .if1 .left) ∙ ap optional (sym (called .read-number .ensures) ∙ c .enum-told .given .1))
+    principal-answered _ (sym (principal-number _ (sym (called .before .before .is-dash .ensures) ∙ called .before .if1 .left) ∙ ap optional (sym (called .read-number .ensures .answer) ∙ c .enum-told .given .1)))
 
 pub read-principal-spec : {M : Type 1} → statement M
 read-principal-spec =

@@ -7,6 +7,7 @@ use native.Mathlib.Omega.{arith}
 use borrow.Author.Needs.{needs}
 use lib.ListN.{length, set}
 use lib.Seq.{set-out}
+use Rattle.text.specs.Parts.{mostFields}
 use Rattle.text.proofs.PartLaws.{Fielding, fielding-none, end-bounds, fielding-more, fielded}
 use Rattle.text.proofs.parts.read_fields.Statement.{statement}
 use Rattle.text.proofs.parts.read_fields.Tie as tie
@@ -30,7 +31,7 @@ array-write-ends : tie.Need-array-write-ends Inv-loop μ-loop
 array-write-ends c = omega arith
 
 -- past the seventh field nothing is written down
-full : (c : tie.Joined1 Inv-loop μ-loop) → 7 ≤ c .before .before .loop .count → length (c .before .before .loop .ends) ≤ c .before .before .loop .count
+full : (c : tie.Joined1 Inv-loop μ-loop) → mostFields ≤ c .before .before .loop .count → length (c .before .before .loop .ends) ≤ c .before .before .loop .count
 full c h = omega (arith, c .before .before .loop .inv .sized)
 
 stored : (c : tie.Joined1 Inv-loop μ-loop) → c .if1 .ends ≡ set (c .before .before .loop .ends) (c .before .before .loop .count) (c .before .field-end .result)
