@@ -117,7 +117,9 @@ module _ (field : List ℕ) (at : ℕ) (inside : at ≤ length field) where
 
       pub entry-stray : (getD field end 0 ≡ comma → ⊥) → Entry.Bad ≡ entryAt field at
       entry-stray c =
-          let past : end < nextAt comma field at = lt-of-le-of-ne (up-to .1) (λ there. c (ap (λ k. getD field k 0) there ∙ next-found comma field at inside (omega (arith, entry-inside)))) in
+          let found = next-found comma field at inside in
+          let past : end < nextAt comma field at =
+          lt-of-le-of-ne (up-to .1) (λ there. c (ap (λ k. getD field k 0) there ∙ found (omega (arith, entry-inside)))) in
           entry-is none (part-cut field at part part-digits n end e (omega (arith, part-end)))
 
 -- ---- a turn of the reader
@@ -205,7 +207,9 @@ module _ (field was out : List ℕ) (listed : Listed) (at : ℕ) (l : Listing fi
 
   whole-by : (o : Option ℕ) → next ≡ o → listOf field ≡ l .entries then ((λ y ys. y ∷ ys) <$> o <*> later)
   unfolding next later
-  whole-by o e = l .whole ∙ ap (λ parts. l .entries then each numberOf parts) (first-part comma field at (l .within)) ∙ ap (λ o. l .entries then ((λ y ys. y ∷ ys) <$> o <*> later)) e
+  whole-by o e =
+      l .whole ∙ ap (λ parts. l .entries then each numberOf parts) (first-part comma field at (l .within))
+      ∙ ap (λ o. l .entries then ((λ y ys. y ∷ ys) <$> o <*> later)) e
 
   begun-by : (o : Option ℕ) → next ≡ o → entriesOf field ≡ l .entries ++ leads o (numbersAhead (drop 1 (partsAt comma (drop at field))))
   unfolding next

@@ -8,11 +8,11 @@ use native.Mathlib.Nat.{add-zero}
 use native.Mathlib.Numerals.{add-one, lt-of-le-of-ne}
 use native.Mathlib.Omega.{arith}
 use lib.Dec.{eqb, ltb}
-use lib.ListN.{length, getD, take, drop, length-drop, set, replicate, length-set, getD-replicate, List·getD-eq-default}
-use lib.Seq.{drop-cons, drop-drop, getD-drop, take-all, getD-set-same, getD-set-other}
+use lib.ListN.{length, getD, take, drop, length-take, length-drop, set, replicate, length-set, getD-replicate, List·getD-eq-default}
+use lib.Seq.{drop-cons, drop-drop, getD-drop, take-all, getD-set-same, getD-set-other, ext-getD}
 use borrow.Author.Tests.{eq-eqb, ne-eqb, lt-ltb, le-ltb, le-leb, lt-leb, eqb-true, ltb-true, ltb-false}
 use Rattle.format.specs.Text.{Bytes, partsAt, onto, tab, fieldsOf}
-use Rattle.text.specs.Parts.{before, nextAt, mostFields, startOf, between, FieldAt, Fielded, fieldBy, FieldPart}
+use Rattle.text.specs.Parts.{before, nextAt, between, mostFields, endsOf, fieldsRead, startOf, FieldAt, Fielded, fieldBy, FieldPart}
 use Rattle.text.specs.declared.parts.Fields.{Fields}
 
 -- ---- the bytes before the first separator
@@ -87,7 +87,8 @@ module _ (separator : ℕ) (bs : Bytes) (start : ℕ) where
   pub next-least : (i : ℕ) → start ≤ i → i < length bs → getD bs i 0 ≡ separator → nextAt separator bs start ≤ i
   next-least i f l e =
       let there : start + (i - start) ≡ i = omega arith in
-      let least = before-least separator (drop start bs) (i - start) (omega (arith, length-drop start bs)) (getD-drop start bs (i - start) 0 ∙ ap (λ k. getD bs k 0) there ∙ e) in
+      let here = getD-drop start bs (i - start) 0 ∙ ap (λ k. getD bs k 0) there ∙ e in
+      let least = before-least separator (drop start bs) (i - start) (omega (arith, length-drop start bs)) here in
       omega (arith, least, next-inside (omega arith))
 
   pub next-here : start < length bs → getD bs start 0 ≡ separator → nextAt separator bs start ≡ start
@@ -133,6 +134,65 @@ module _ (separator : ℕ) (bs : Bytes) (start : ℕ) where
           let all : length (drop start bs) ≤ nextAt separator bs start - start = omega (arith, length-drop start bs) in
           let parts = last-part h end in
           parts ∙ ap₂ (λ part rest. part ∷ rest) (sym (take-all _ (drop start bs) all)) (sym (ap (drop 1) parts))
+
+-- ---- the ends, by the fields' lengths
+
+abbrev startFrom : ℕ → List ℕ → ℕ → ℕ
+startFrom start ends zero = start
+startFrom start ends (suc i) = getD ends i 0 + 1
+
+ends-length : (n start : ℕ) (parts : List Bytes) → length (endsOf n start parts) ≡ n
+unfolding endsOf
+ends-length zero start parts = refl
+ends-length (suc n) start [] = ap suc (ends-length n start [])
+ends-length (suc n) start (part ∷ parts) = ap suc (ends-length n (start + length part + 1) parts)
+
+ends-there : (n start : ℕ) (parts : List Bytes) (i : ℕ) → i < n → i < length parts
+    → getD (endsOf n start parts) i 0 ≡ startFrom start (endsOf n start parts) i + length (getD parts i [])
+unfolding endsOf
+ends-there zero start parts i h l = absurd (omega arith)
+ends-there (suc n) start [] i h l = absurd (omega arith)
+ends-there (suc n) start (part ∷ parts) zero h l = refl
+ends-there (suc n) start (part ∷ parts) (suc zero) h l = ends-there n (start + length part + 1) parts zero (omega arith) (omega arith)
+ends-there (suc n) start (part ∷ parts) (suc (suc i)) h l = ends-there n (start + length part + 1) parts (suc i) (omega arith) (omega arith)
+
+ends-past : (n start : ℕ) (parts : List Bytes) (i : ℕ) → length parts ≤ i → getD (endsOf n start parts) i 0 ≡ 0
+unfolding endsOf
+ends-past zero start parts i h = refl
+ends-past (suc n) start [] zero h = refl
+ends-past (suc n) start [] (suc i) h = ends-past n start [] i (omega arith)
+ends-past (suc n) start (part ∷ parts) zero h = absurd (omega arith)
+ends-past (suc n) start (part ∷ parts) (suc i) h = ends-past n (start + length part + 1) parts i (omega arith)
+
+module _
+    (line : Bytes) (ends : List ℕ) (sized : length ends ≡ mostFields)
+    (found : (i : ℕ) → i < mostFields → i < length (fieldsOf line) → FieldAt line ends i)
+    (unused : (i : ℕ) → i < mostFields → length (fieldsOf line) ≤ i → getD ends i 0 ≡ 0) where
+  end-there : (i : ℕ) → i < mostFields → i < length (fieldsOf line) → getD ends i 0 ≡ startOf ends i + length (getD (fieldsOf line) i [])
+  end-there i h l =
+      let p = found i h l in
+      let size = length-take (getD ends i 0 - startOf ends i) (drop (startOf ends i) line) in
+      omega (arith, ap length (p .part), size, length-drop (startOf ends i) line, p .ordered, p .inside)
+
+  same-end : (i : ℕ) → i < mostFields → i < length (fieldsOf line) → getD ends i 0 ≡ getD (endsOf mostFields 0 (fieldsOf line)) i 0
+  same-end zero h l = end-there 0 h l ∙ sym (ends-there mostFields 0 (fieldsOf line) 0 h l)
+  same-end (suc i) h l =
+      let before = same-end i (omega arith) (omega arith) in
+      end-there (suc i) h l ∙ ap (λ n. n + 1 + length (getD (fieldsOf line) (suc i) [])) before
+      ∙ sym (ends-there mostFields 0 (fieldsOf line) (suc i) h l)
+
+  ends-read : ends ≡ endsOf mostFields 0 (fieldsOf line)
+  ends-read =
+      ext-getD 0 ends (endsOf mostFields 0 (fieldsOf line)) (sized ∙ sym (ends-length mostFields 0 (fieldsOf line))) (λ i h. each-end i (omega arith))
+    where
+      each-end : (i : ℕ) → i < mostFields → getD ends i 0 ≡ getD (endsOf mostFields 0 (fieldsOf line)) i 0
+      each-end i h = by-test (ltb i (length (fieldsOf line))) refl
+        where
+          by-test : (t : Bool) → ltb i (length (fieldsOf line)) ≡ t → getD ends i 0 ≡ getD (endsOf mostFields 0 (fieldsOf line)) i 0
+          by-test true e = same-end i h (ltb-true i (length (fieldsOf line)) e)
+          by-test false e =
+              let past = ltb-false i (length (fieldsOf line)) e in
+              unused i h past ∙ sym (ends-past mostFields 0 (fieldsOf line) i past)
 
 -- ---- a turn of the reader
 
@@ -204,23 +264,31 @@ module _
   unused′ : (i : ℕ) → i < mostFields → count + 1 ≤ i → getD ends′ i 0 ≡ 0
   unused′ i h l = end-other i (λ e. omega arith) ∙ f .unused i h (omega arith)
 
+  sized′ : length ends′ ≡ mostFields
+  sized′ = ap length written ∙ length-set ends count end ∙ f .sized
+
   pub fielding-more : (end ≡ length line → ⊥) → Fielding line ends′ (count + 1) (end + 1)
   fielding-more n =
       let inside : nextAt tab line at < length line = rw is-end at (lt-of-le-of-ne (end-bounds .1) n) in
       record {
-        sized = ap length written ∙ length-set ends count end ∙ f .sized;
+        sized = sized′;
         few = omega (arith, end-bounds, f .few);
         within = omega arith;
-        rest = sym (drop-drop 1 count (fieldsOf line)) ∙ ap (drop 1) (f .rest ∙ next-part tab line at (f .within) inside) ∙ ap (λ k. partsAt tab (drop (k + 1) line)) (sym is-end);
+        rest =
+            sym (drop-drop 1 count (fieldsOf line)) ∙ ap (drop 1) (f .rest ∙ next-part tab line at (f .within) inside)
+            ∙ ap (λ k. partsAt tab (drop (k + 1) line)) (sym is-end);
         begins = λ l. rw (add-one count) (ap (λ k. k + 1) (end-here (omega arith)));
         found = found′;
         unused = unused′;
       }
 
   pub fielded : end ≡ length line → Fielded line (record { count = count + 1; ends = ends′ })
+  unfolding fieldsRead
   fielded h =
       let one = ap length (f .rest ∙ last-part tab line at (f .within) (sym is-end ∙ h)) in
-      record { counted = omega (arith, one, length-drop count (fieldsOf line)); found = found′; unused = unused′ }
+      let all : count + 1 ≡ length (fieldsOf line) = omega (arith, one, length-drop count (fieldsOf line)) in
+      let ends-all = ends-read line ends′ sized′ (λ i h l. found′ i h (omega arith)) (λ i h l. unused′ i h (omega arith)) in
+      record { read = ap₂ (λ c e. record { count = c; ends = e }) all ends-all; counted = all; found = found′; unused = unused′ }
 
 -- ---- a field by the ends that were read
 

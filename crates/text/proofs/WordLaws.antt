@@ -39,7 +39,9 @@ unfolding kindOf
 kind-long field h = simp (not-one-byte field 65 h, not-one-byte field 70 h, not-one-byte field 78 h, not-one-byte field 67 h)
 
 pub kind-byte : (field : Bytes) → length field ≡ 1
-    → kindOf field ≡ cond (eqb (getD field 0 0) 65) Atom (cond (eqb (getD field 0 0) 70) Formula (cond (eqb (getD field 0 0) 78) Row (cond (eqb (getD field 0 0) 67) Claim Unknown)))
+    → kindOf field
+    ≡ cond (eqb (getD field 0 0) 65) Atom (
+    cond (eqb (getD field 0 0) 70) Formula (cond (eqb (getD field 0 0) 78) Row (cond (eqb (getD field 0 0) 67) Claim Unknown)))
 unfolding kindOf
 kind-byte field h = simp (one-byte field 65 h, one-byte field 70 h, one-byte field 78 h, one-byte field 67 h)
 
@@ -60,10 +62,19 @@ kind-answered field e =
 
 pub formula-key : (field : Bytes) (key : ℕ) → IsKey field key
     → formulaWord field
-    ≡ cond (eqb key 0x1746f62) 0 (cond (eqb key 0x16d6f7461) 1 (cond (eqb key 0x1746f6e) 2 (cond (eqb key 0x1646e61) 3 (cond (eqb key 0x1726f) 4 (cond (eqb key 0x1706d69) 5 noWord)))))
+    ≡ cond (eqb key 0x1746f62) 0 (
+    cond (eqb key 0x16d6f7461) 1 (
+    cond (eqb key 0x1746f6e) 2 (cond (eqb key 0x1646e61) 3 (cond (eqb key 0x1726f) 4 (cond (eqb key 0x1706d69) 5 noWord)))))
 unfolding formulaWord keyOf
 formula-key field key k =
-    simp (sym (k (bytes "bot") refl), sym (k (bytes "atom") refl), sym (k (bytes "not") refl), sym (k (bytes "and") refl), sym (k (bytes "or") refl), sym (k (bytes "imp") refl))
+    simp (
+      sym (k (bytes "bot") refl),
+      sym (k (bytes "atom") refl),
+      sym (k (bytes "not") refl),
+      sym (k (bytes "and") refl),
+      sym (k (bytes "or") refl),
+      sym (k (bytes "imp") refl),
+    )
 
 same→equal : (a b : Bytes) → sameList a b ≡ true → a ≡ b
 unfolding sameList
@@ -167,7 +178,9 @@ NoneOf N (r ∷ rs) key = NoneOf (N × (key ≡ wordKey r → ⊥)) rs key
 
 none-of : (N : Type 0) (rs : List Rule) (key : ℕ) → NoneOf N rs key → N × (codeAmong rs key ≡ noRule)
 none-of N [] key left = (left, refl)
-none-of N (r ∷ rs) key left = let rest = none-of (N × (key ≡ wordKey r → ⊥)) rs key left in (rest .0 .0, by-test (eqb key (wordKey r)) refl (rest .0 .1) (rest .1))
+none-of N (r ∷ rs) key left =
+    let rest = none-of (N × (key ≡ wordKey r → ⊥)) rs key left in
+    (rest .0 .0, by-test (eqb key (wordKey r)) refl (rest .0 .1) (rest .1))
   where
     by-test : (t : Bool) → eqb key (wordKey r) ≡ t → (key ≡ wordKey r → ⊥) → codeAmong rs key ≡ noRule → cond t (codeOf r) (codeAmong rs key) ≡ noRule
     by-test true e other rest = absurd (other (eqb-true _ _ e))

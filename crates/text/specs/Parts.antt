@@ -23,9 +23,20 @@ between bs start end = take (end - start) (drop start bs)
 
 -- ---- fields
 
--- the most fields that a line has: those of an N line
+-- the most fields of a line that is well written: those of an N line
 abbrev pub mostFields : ℕ
 mostFields = 7
+
+-- where the first n of some parts end, of which the first starts at a place and each other one past a separator; 0 for each that
+-- is not there
+unfoldable pub endsOf : ℕ → ℕ → List Bytes → List ℕ
+endsOf zero start parts = []
+endsOf (suc n) start [] = 0 ∷ endsOf n start []
+endsOf (suc n) start (part ∷ parts) = (start + length part) ∷ endsOf n (start + length part + 1) parts
+
+-- the fields of a line, as they are read
+unfoldable pub fieldsRead : Bytes → Fields
+fieldsRead line = record { count = length (fieldsOf line); ends = endsOf mostFields 0 (fieldsOf line) }
 
 -- where a field starts: the first at 0, each other one past the end of the field before it
 abbrev pub startOf : List ℕ → ℕ → ℕ
@@ -38,13 +49,14 @@ pub record FieldAt (line : Bytes) (ends : List ℕ) (i : ℕ) : Type 0 where
   pub inside : getD ends i 0 ≤ length line
   pub part : between line (startOf ends i) (getD ends i 0) ≡ getD (fieldsOf line) i []
 
--- the count of the fields, and the ends of the first of them; an end that is not used is 0
+-- the fields of a line: their count, and the ends of the first of them; an end that is not used is 0
 pub record Fielded (line : Bytes) (f : Fields) : Type 0 where
+  pub read : f ≡ fieldsRead line
   pub counted : f .count ≡ length (fieldsOf line)
   pub found : (i : ℕ) → i < mostFields → i < f .count → FieldAt line (f .ends) i
   pub unused : (i : ℕ) → i < mostFields → f .count ≤ i → getD (f .ends) i 0 ≡ 0
 
--- where field i starts and ends, by the ends that were read: there is such a field, and these lie in order inside the line
+-- field i, by the ends that were read, stands in the line: there is such a field, and its start and end lie in order inside
 abbrev pub standsIn : Bytes → Fields → ℕ → Bool
 standsIn line f i = ltb i mostFields && ltb i (f .count) && leb (startOf (f .ends) i) (getD (f .ends) i 0) && leb (getD (f .ends) i 0) (length line)
 

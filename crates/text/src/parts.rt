@@ -68,7 +68,7 @@ fn field_end(line: &[u8], at: usize) -> usize
     find(line, at, b'\t')
 }
 
-// The most fields that a line has: those of an N line.
+// The most fields of a line that is well written: those of an N line.
 pub const MOST_FIELDS: usize = 7;
 
 // How many fields a line has, and where each of the first ones ends. Field 0 starts at 0, and each other one past the end of

@@ -20,22 +20,34 @@ returns c = entry-bad _ _ (c .before .before .before .before .pre) (sym (c .befo
 returns-2 : tie.Need-returns-2
 returns-2 c =
     let number = c .before .before in
-    entry-last _ _ (number .before .before .before .before .pre) _ _ (sym (number .before .before .number-at .ensures) ∙ number .number .given .1) (c .if1 .taken)
+    let called = number .before .before in
+    let pre = called .before .before .pre in
+    let value = sym (called .number-at .ensures) ∙ number .number .given .1 in
+    entry-last _ _ pre _ _ value (c .if1 .taken)
 
 shared-slice-read-if2 : tie.Need-shared-slice-read-if2
 shared-slice-read-if2 c =
     let number = c .before .before .before in
-    entry-inside _ _ (number .before .before .before .before .pre) _ _ (sym (number .before .before .number-at .ensures) ∙ number .number .given .1) (c .before .if1 .left)
+    let called = number .before .before in
+    let pre = called .before .before .pre in
+    let value = sym (called .number-at .ensures) ∙ number .number .given .1 in
+    entry-inside _ _ pre _ _ value (c .before .if1 .left)
 
 returns-3 : tie.Need-returns-3
 returns-3 c =
     let number = c .before .before .before .before in
-    entry-parted _ _ (number .before .before .before .before .pre) _ _ (sym (number .before .before .number-at .ensures) ∙ number .number .given .1) (c .before .before .if1 .left) (c .if2 .taken)
+    let called = number .before .before in
+    let pre = called .before .before .pre in
+    let value = sym (called .number-at .ensures) ∙ number .number .given .1 in
+    entry-parted _ _ pre _ _ value (c .before .before .if1 .left) (c .if2 .taken)
 
 returns-4 : tie.Need-returns-4
 returns-4 c =
     let number = c .before .before .before .before in
-    entry-stray _ _ (number .before .before .before .before .pre) _ _ (sym (number .before .before .number-at .ensures) ∙ number .number .given .1) (c .before .before .if1 .left) (c .if2 .left)
+    let called = number .before .before in
+    let pre = called .before .before .pre in
+    let value = sym (called .number-at .ensures) ∙ number .number .given .1 in
+    entry-stray _ _ pre _ _ value (c .before .before .if1 .left) (c .if2 .left)
 
 pub read-entry-spec : {M : Type 1} → statement M
 read-entry-spec =

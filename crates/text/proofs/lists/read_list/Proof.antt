@@ -54,29 +54,52 @@ returns-3 c =
     let entered = c .before .before .before in
     let entry = entered .before .before .before in
     let at-loop = entry .before .before .before in
-    listed-last _ _ _ _ _ (at-loop .loop .inv) _ _ (sym (entry .before .before .read-entry .ensures) ∙ entry .entry .given .1) _ _ (entered .enter .ensures _ _ (at-loop .loop .inv .holds)) (c .if2 .taken)
+    let value = sym (entry .before .before .read-entry .ensures) ∙ entry .entry .given .1 in
+    let held = entered .enter .ensures _ _ (at-loop .loop .inv .holds) in
+    listed-last _ _ _ _ _ (at-loop .loop .inv) _ _ value _ _ held (c .if2 .taken)
 
 add-at : tie.Need-add-at Inv-loop μ-loop
 add-at c =
     let entered = c .before .before .before in
     let entry = entered .before .before .before in
     let at-loop = entry .before .before .before in
-    omega (arith, entry-bounds _ _ _ _ _ (at-loop .loop .inv) _ _ (sym (entry .before .before .read-entry .ensures) ∙ entry .entry .given .1))
+    let value = sym (entry .before .before .read-entry .ensures) ∙ entry .entry .given .1 in
+    omega (arith, entry-bounds _ _ _ _ _ (at-loop .loop .inv) _ _ value)
 
 loop-less : tie.Need-loop-less Inv-loop μ-loop
 loop-less c =
     let entered = c .before .before .before in
     let entry = entered .before .before .before in
     let at-loop = entry .before .before .before in
-    omega (arith, entry-bounds _ _ _ _ _ (at-loop .loop .inv) _ _ (sym (entry .before .before .read-entry .ensures) ∙ entry .entry .given .1))
+    let value = sym (entry .before .before .read-entry .ensures) ∙ entry .entry .given .1 in
+    omega (arith, entry-bounds _ _ _ _ _ (at-loop .loop .inv) _ _ value)
 
 loop-again : tie.Need-loop-again Inv-loop μ-loop
 loop-again c =
     let entered = c .before .before .before in
     let entry = entered .before .before .before in
     let at-loop = entry .before .before .before in
-    listing-more _ _ _ _ _ (at-loop .loop .inv) _ _ (sym (entry .before .before .read-entry .ensures) ∙ entry .entry .given .1) _ _ (entered .enter .ensures _ _ (at-loop .loop .inv .holds)) (c .if2 .left)
+    let value = sym (entry .before .before .read-entry .ensures) ∙ entry .entry .given .1 in
+    let held = entered .enter .ensures _ _ (at-loop .loop .inv .holds) in
+    listing-more _ _ _ _ _ (at-loop .loop .inv) _ _ value _ _ held (c .if2 .left)
 
 pub read-list-spec : {M : Type 1} → statement M
 read-list-spec =
-    tie.close (tie.spec Inv-loop μ-loop is-dash-requires returns loop-holds read-entry-requires enum-known-entry enum-told same-length returns-2 enter-requires same-length-2 returns-3 add-at loop-less loop-again)
+    tie.close
+    (tie.spec
+    Inv-loop
+    μ-loop
+    is-dash-requires
+    returns
+    loop-holds
+    read-entry-requires
+    enum-known-entry
+    enum-told
+    same-length
+    returns-2
+    enter-requires
+    same-length-2
+    returns-3
+    add-at
+    loop-less
+    loop-again)

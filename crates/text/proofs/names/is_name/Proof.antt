@@ -45,7 +45,8 @@ is-name-byte-requires c κs = search needs
 returns-4 : tie.Need-returns-4 Inv-loop μ-loop
 returns-4 c =
     let at-loop = c .before .before .before .before in
-    sym (name-stray _ (at-loop .loop .inv ∙ all-stray nameByte _ _ (c .before .before .before .loop-test .taken) (sym (c .before .is-name-byte .ensures) ∙ not-true _ (c .if4 .taken))))
+    let stray = sym (c .before .is-name-byte .ensures) ∙ not-true _ (c .if4 .taken) in
+    sym (name-stray _ (at-loop .loop .inv ∙ all-stray nameByte _ _ (c .before .before .before .loop-test .taken) stray))
 
 add-at : tie.Need-add-at Inv-loop μ-loop
 add-at c = omega arith
@@ -56,13 +57,31 @@ loop-less c = omega arith
 loop-again : tie.Need-loop-again Inv-loop μ-loop
 loop-again c =
     let at-loop = c .before .before .before .before in
-    at-loop .loop .inv ∙ all-more nameByte _ _ (c .before .before .before .loop-test .taken) (sym (c .before .is-name-byte .ensures) ∙ not-false _ (c .if4 .left))
+    let one = sym (c .before .is-name-byte .ensures) ∙ not-false _ (c .if4 .left) in
+    at-loop .loop .inv ∙ all-more nameByte _ _ (c .before .before .before .loop-test .taken) one
 
 returns-5 : tie.Need-returns-5 Inv-loop μ-loop
 returns-5 c =
     let at-if3 = c .before .before in
-    sym (name-whole _ (omega arith) (sym (at-if3 .before .is-letter .ensures) ∙ not-false _ (at-if3 .if3 .left)) (c .before .loop .inv ∙ all-done nameByte _ _ (c .loop-test .left)))
+    let letter = sym (at-if3 .before .is-letter .ensures) ∙ not-false _ (at-if3 .if3 .left) in
+    sym (name-whole _ (omega arith) letter (c .before .loop .inv ∙ all-done nameByte _ _ (c .loop-test .left)))
 
 pub is-name-spec : {M : Type 1} → statement M
 is-name-spec =
-    tie.close (tie.spec Inv-loop μ-loop returns returns-2 shared-slice-read-is-letter is-letter-requires returns-3 loop-holds shared-slice-read-is-name-byte is-name-byte-requires returns-4 add-at loop-less loop-again returns-5)
+    tie.close
+    (tie.spec
+    Inv-loop
+    μ-loop
+    returns
+    returns-2
+    shared-slice-read-is-letter
+    is-letter-requires
+    returns-3
+    loop-holds
+    shared-slice-read-is-name-byte
+    is-name-byte-requires
+    returns-4
+    add-at
+    loop-less
+    loop-again
+    returns-5)

@@ -11,7 +11,8 @@ use borrow.Author.Tests.{not-true, not-false}
 use lib.ListN.{length, drop}
 use Rattle.format.specs.Text.{isDigit}
 use Rattle.text.specs.Numbers.{digits}
-use Rattle.text.proofs.NumberLaws.{Reading, reading-none, reading-long, reading-small, reading-more, reading-past, reading-stray, digit-range, read-none, read-padded, read-value}
+use Rattle.text.proofs.NumberLaws.{Reading, reading-none, reading-long, reading-small, reading-more, reading-past, reading-stray}
+use Rattle.text.proofs.NumberLaws.{digit-range, read-none, read-padded, read-value}
 use Rattle.text.proofs.numbers.number_at.Statement.{statement}
 use Rattle.text.proofs.numbers.number_at.Tie as tie
 
@@ -36,7 +37,8 @@ sub-if2 c = omega arith
 returns : tie.Need-returns Inv-loop μ-loop
 returns c =
     let at-loop = c .before .before .before .before .before in
-    sym (reading-long _ _ _ _ (at-loop .loop .inv) (c .before .before .before .before .loop-test .taken) (sym (c .before .before .is-digit .ensures) ∙ not-false _ (c .before .if1 .left)) (c .if2 .taken))
+    let digit = sym (c .before .before .is-digit .ensures) ∙ not-false _ (c .before .if1 .left) in
+    sym (reading-long _ _ _ _ (at-loop .loop .inv) (c .before .before .before .before .loop-test .taken) digit (c .if2 .taken))
 
 mul-value : tie.Need-mul-value Inv-loop μ-loop
 mul-value c =
@@ -67,7 +69,9 @@ loop-less c = omega arith
 loop-again : tie.Need-loop-again Inv-loop μ-loop
 loop-again c =
     let at-loop = c .before .before .before .before .before .before in
-    rw (c .wide32 .ensures) (reading-more _ _ _ _ (at-loop .loop .inv) (c .before .if2 .left) (c .before .before .before .before .before .loop-test .taken) (sym (c .before .before .before .is-digit .ensures) ∙ not-false _ (c .before .before .if1 .left)))
+    let digit = sym (c .before .before .before .is-digit .ensures) ∙ not-false _ (c .before .before .if1 .left) in
+    let more = c .before .before .before .before .before .loop-test .taken in
+    rw (c .wide32 .ensures) (reading-more _ _ _ _ (at-loop .loop .inv) (c .before .if2 .left) more digit)
 
 -- where the loop is left no digit follows
 no-more : (c : tie.Left-loop Inv-loop μ-loop) → digits (drop (c .before .loop .end) (c .before .before .before .args .field .now)) ≡ []
@@ -103,4 +107,25 @@ returns-5 c =
 
 pub number-at-spec : {M : Type 1} → statement M
 number-at-spec =
-    tie.close (tie.spec Inv-loop μ-loop loop-holds shared-slice-read-b is-digit-requires sub-if2 returns mul-value wide32-requires sub-value add-value add-end loop-less loop-again returns-2 add-if4 returns-3 shared-slice-read-if5 returns-4 returns-5)
+    tie.close
+    (tie.spec
+    Inv-loop
+    μ-loop
+    loop-holds
+    shared-slice-read-b
+    is-digit-requires
+    sub-if2
+    returns
+    mul-value
+    wide32-requires
+    sub-value
+    add-value
+    add-end
+    loop-less
+    loop-again
+    returns-2
+    add-if4
+    returns-3
+    shared-slice-read-if5
+    returns-4
+    returns-5)

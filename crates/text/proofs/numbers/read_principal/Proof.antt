@@ -23,12 +23,16 @@ enum-told c = search needs
 returns-2 : tie.Need-returns-2
 returns-2 c =
     let called = c .before .before .before in
-    principal-answered _ (sym (principal-number _ (sym (called .before .before .is-dash .ensures) ∙ called .before .if1 .left) ∙ ap optional (sym (called .read-number .ensures .answer) ∙ c .before .number .given .1)))
+    let no-dash = sym (called .before .before .is-dash .ensures) ∙ called .before .if1 .left in
+    let number = sym (called .read-number .ensures .answer) ∙ c .before .number .given .1 in
+    principal-answered _ (sym (principal-number _ no-dash ∙ ap optional number))
 
 returns-3 : tie.Need-returns-3
 returns-3 c =
     let called = c .before .before in
-    principal-answered _ (sym (principal-number _ (sym (called .before .before .is-dash .ensures) ∙ called .before .if1 .left) ∙ ap optional (sym (called .read-number .ensures .answer) ∙ c .enum-told .given .1)))
+    let no-dash = sym (called .before .before .is-dash .ensures) ∙ called .before .if1 .left in
+    let number = sym (called .read-number .ensures .answer) ∙ c .enum-told .given .1 in
+    principal-answered _ (sym (principal-number _ no-dash ∙ ap optional number))
 
 pub read-principal-spec : {M : Type 1} → statement M
 read-principal-spec =

@@ -38,7 +38,8 @@ stored : (c : tie.Joined1 Inv-loop μ-loop) → c .if1 .ends ≡ set (c .before 
 stored c = ⊎-elim (λ w. w .1) (λ w. w .1 ∙ sym (set-out _ _ _ (full c (w .0 .left)))) (c .if1 .came)
 
 bounds : (c : tie.Joined1 Inv-loop μ-loop)
-    → (c .before .before .loop .at ≤ c .before .field-end .result) × (c .before .field-end .result ≤ length (c .before .before .before .before .args .line .now))
+    → (c .before .before .loop .at ≤ c .before .field-end .result)
+    × (c .before .field-end .result ≤ length (c .before .before .before .before .args .line .now))
 bounds c = end-bounds _ _ _ _ (c .before .before .loop .inv) _ (c .before .field-end .ensures) _ (stored c)
 
 add-count : tie.Need-add-count Inv-loop μ-loop

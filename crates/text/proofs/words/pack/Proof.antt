@@ -49,11 +49,16 @@ loop-less c = omega arith
 loop-again : tie.Need-loop-again Inv-loop μ-loop
 loop-again c =
     let in-loop = c .before .before in
-    let inv = in-loop .before .loop .inv in
-    (omega arith, sym (key-step _ _ (λ i. in-loop .before .before .before .shared-slice-known .given i .fits) (in-loop .loop-test .taken) (inv .0) ∙ ap₂ (λ k b. k * 256 + b) (sym (inv .1)) (sym (c .wide64 .ensures))))
+    let inv = in-loop .before .loop .inv in (
+      omega arith,
+      sym (
+          key-step _ _ (λ i. in-loop .before .before .before .shared-slice-known .given i .fits) (in-loop .loop-test .taken) (inv .0)
+          ∙ ap₂ (λ k b. k * 256 + b) (sym (inv .1)) (sym (c .wide64 .ensures))),
+    )
 
 returns-2 : tie.Need-returns-2 Inv-loop μ-loop
 returns-2 c = key-done _ _ _ (λ i. c .before .before .before .shared-slice-known .given i .fits) (c .loop-test .left) (c .before .loop .inv .1)
 
 pub pack-spec : {M : Type 1} → statement M
-pack-spec = tie.close (tie.spec Inv-loop μ-loop returns loop-holds sub-at mul-key shared-slice-read-wide64 wide64-requires add-key loop-less loop-again returns-2)
+pack-spec =
+    tie.close (tie.spec Inv-loop μ-loop returns loop-holds sub-at mul-key shared-slice-read-wide64 wide64-requires add-key loop-less loop-again returns-2)
