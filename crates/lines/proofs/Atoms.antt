@@ -20,9 +20,10 @@ use Rattle.format.specs.Tests.{_when_, rank, outOfOrder, first, atomTests}
 use Rattle.format.specs.Judged.{Place, next, settled, step, withAtom, nameStart}
 use Rattle.format.proofs.Beginnings.{Good, step-good}
 use Rattle.format.proofs.Stepping.{first-applies, first-passes, step-bad, step-atom}
-use Rattle.text.specs.Answers.{numberAs, startOf, between, FieldAt, Fielded}
-use Rattle.text.specs.declared.Number.{Number}
-use Rattle.text.specs.declared.Fields.{Fields}
+use Rattle.text.specs.Parts.{startOf, between, FieldAt, Fielded}
+use Rattle.text.specs.Numbers.{numberAs}
+use Rattle.text.specs.declared.numbers.Number.{Number}
+use Rattle.text.specs.declared.parts.Fields.{Fields}
 use Rattle.tables.specs.Records.{written, nameWidth}
 use Rattle.tables.specs.Lookups.{nameUsed}
 use Rattle.tables.proofs.Encoded.{names-length, used-encoded}

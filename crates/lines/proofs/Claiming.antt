@@ -14,8 +14,8 @@ use Rattle.format.specs.Tests.{first, lastIs}
 use Rattle.format.specs.Judged.{Place, Outcome, settled, withClaim, step}
 use Rattle.format.proofs.Stepping.{step-bad, step-claim}
 use Rattle.rows.specs.Ground.{Rows}
-use Rattle.text.specs.Answers.{listedAs, ListedInto}
-use Rattle.text.specs.declared.Listed.{Listed}
+use Rattle.text.specs.Lists.{listedAs, ListedInto}
+use Rattle.text.specs.declared.lists.Listed.{Listed}
 use Rattle.lines.specs.State.{Contents, Stored}
 use Rattle.lines.specs.Entering.{pastOf, numbered}
 use Rattle.lines.specs.Lined.{OfKind, Lined}

@@ -15,11 +15,11 @@ use Rattle.format.specs.Judged.{Place, step}
 use Rattle.format.proofs.Booleans.{same-list}
 use Rattle.format.proofs.Beginnings.{Good}
 use Rattle.format.proofs.Stepping.{parts-some, step-bad}
-use Rattle.text.specs.Answers.{between, FieldAt, Fielded}
+use Rattle.text.specs.Parts.{between, FieldAt, Fielded}
 use Rattle.text.specs.Words.{kindOf}
-use Rattle.text.specs.declared.Kind.{Kind}
-use Rattle.text.specs.declared.Kind.the-variants.{Atom, Formula, Row, Claim, Unknown}
-use Rattle.text.specs.declared.Fields.{Fields}
+use Rattle.text.specs.declared.words.Kind.{Kind}
+use Rattle.text.specs.declared.words.Kind.the-variants.{Atom, Formula, Row, Claim, Unknown}
+use Rattle.text.specs.declared.parts.Fields.{Fields}
 use Rattle.lines.specs.State.{Contents, Stored}
 use Rattle.lines.specs.Lined.{Lined}
 use Rattle.lines.specs.Stepping.{LineStepped}

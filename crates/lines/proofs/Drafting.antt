@@ -13,8 +13,8 @@ use Rattle.format.specs.File.{Stage, File}
 use Rattle.format.specs.Tables.{padded, joinAll}
 use Rattle.format.specs.Tests.{rank, mayFollow, outOfOrder}
 use Rattle.format.specs.Judged.{Place, refused, settled}
-use Rattle.text.specs.Answers.{numberAs}
-use Rattle.text.specs.declared.Number.{Number}
+use Rattle.text.specs.Numbers.{numberAs}
+use Rattle.text.specs.declared.numbers.Number.{Number}
 use Rattle.tables.specs.Records.{written}
 use Rattle.tables.proofs.Placed.{written-inside}
 use Rattle.tables.proofs.Encoded.{put-encoded}

@@ -14,8 +14,9 @@ use Rattle.format.specs.File.{Row, Stage, in-atoms, in-formulas, in-rows, claim
 use Rattle.format.specs.Tables.{leftPool, rightPool, mostRows, mostEntries, mostOnSide}
 use Rattle.format.specs.Tests.{Test, _when_, first, rank, mayFollow, outOfOrder, notEarlier, unknownFormula, listed, lastIs, badSide, ruleTests, rowTests, claimTests}
 use Rattle.format.proofs.Booleans as booleans
-use Rattle.text.specs.Answers.{largest, laidOver, principalAs, listedAs}
-use Rattle.text.specs.declared.Listed.{Listed}
+use Rattle.text.specs.Numbers.{principalAs}
+use Rattle.text.specs.Lists.{largest, laidOver, listedAs}
+use Rattle.text.specs.declared.lists.Listed.{Listed}
 use Rattle.lines.specs.State.{Counted}
 use Rattle.lines.specs.Entering.{rowEntered, pastOf, aheadOf, badOf, orderOf, roomOf, referencesOf, earlyOf, numbered}
 use Rattle.lines.specs.Claiming.{Laid, claimOf}

@@ -1,5 +1,5 @@
--- The fields of N and C lines: where each stands, and what they write by their kind and their count.
-use Prim.Native.Nat.{ℕ, zero, suc, _+_, _-_, _≤_, _<_}
+-- The fields of N and C lines: what they write by their kind and their count.
+use Prim.Native.Nat.{ℕ}
 use native.Mathlib.Omega.{arith}
 use mathlib.Core.Path.{_≡_, refl, ap, _∙_}
 use mathlib.Core.List.{List, [], _∷_}
@@ -8,24 +8,7 @@ use lib.ListN.{length, getD, drop}
 use Rattle.elk.specs.Rules.{Rule}
 use Rattle.format.specs.Text.{Bytes, bytes, _<$>_, _<*>_, fieldsOf, sameList, numberOf, principalOf, listOf}
 use Rattle.format.specs.Line.{Line, rowLine, claimLine, ruleOf, makeRow, rowFields, claimFields, ofKind, lineOf}
-use Rattle.text.specs.Answers.{startOf, between, Fielded}
-use Rattle.text.specs.declared.Fields.{Fields}
 use Rattle.lines.specs.Lined.{OfKind}
-
--- ---- a field between its ends
-
-start-of : (ends : List ℕ) (i : ℕ) → 0 < i → startOf ends i ≡ getD ends (i - 1) 0 + 1
-start-of ends zero h = absurd (omega arith)
-start-of ends (suc i) h = let e : i ≡ suc i - 1 = omega arith in ap (λ (k : ℕ). getD ends k 0 + 1) e
-
-pub field-found : (line : Bytes) (f : Fields) (i : ℕ) → (Fielded line f) × (0 < i) × (i < 7) × (i < f .count)
-    → (getD (f .ends) (i - 1) 0 + 1 ≤ getD (f .ends) i 0) × (getD (f .ends) i 0 ≤ length line) × (between line (getD (f .ends) (i - 1) 0 + 1) (getD (f .ends) i 0) ≡ getD (fieldsOf line) i [])
-field-found line f i pre =
-    let found = pre .0 .found i (pre .2) (pre .3) in
-    let start = start-of (f .ends) i (pre .1) in
-    (rw start at (found .ordered), found .inside, rw start at (found .part))
-
--- ---- the fields of each kind
 
 not-empty : {x : ℕ} {xs : Bytes} → _≡_ {A = Bytes} [] (x ∷ xs) → ⊥
 not-empty e = let z : _≡_ {A = ℕ} 0 1 = cc in omega arith

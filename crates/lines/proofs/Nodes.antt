@@ -29,10 +29,11 @@ use Rattle.format.proofs.Formulas.{formulas-snoc, length-formulas, formulas-pre
 use Rattle.atomset.specs.AtomSet.{has, Member}
 use Rattle.atomset.proofs.Digits.{has-zero, has-or, has-power}
 use Rattle.atomset.proofs.Membership.{member-union}
-use Rattle.text.specs.Answers.{numberAs, Fielded}
+use Rattle.text.specs.Parts.{Fielded}
+use Rattle.text.specs.Numbers.{numberAs}
 use Rattle.text.specs.Words.{formulaWord}
-use Rattle.text.specs.declared.Number.{Number}
-use Rattle.text.specs.declared.Fields.{Fields}
+use Rattle.text.specs.declared.numbers.Number.{Number}
+use Rattle.text.specs.declared.parts.Fields.{Fields}
 use Rattle.tables.specs.Records.{written, nodeWidth, nodeNumbers}
 use Rattle.tables.specs.Lookups.{atomWord, nodeAtoms}
 use Rattle.tables.specs.Lookups.{atomsOf as atomsBy}

@@ -13,22 +13,23 @@ use Rattle.format.specs.Text.{Bytes, numberOf, principalOf, listOf}
 use Rattle.format.specs.File.{Row}
 use Rattle.format.specs.Line.{rowLine, ruleOf, makeRow}
 use Rattle.rows.proofs.RuleNumbers.{code-below}
-use Rattle.text.specs.Words.{ruleCode}
-use Rattle.text.specs.Answers.{numberAs, principalAs, listedAs, ListedInto}
-use Rattle.text.specs.declared.Number.{Number}
-use Rattle.text.specs.declared.Optional.{Optional}
-use Rattle.text.specs.declared.Listed.{Listed}
+use Rattle.text.specs.Words.{noRule, ruleCode}
+use Rattle.text.specs.Numbers.{principalAs, NumberRead, PrincipalRead}
+use Rattle.text.specs.Lists.{listedAs, ListedInto}
+use Rattle.text.specs.declared.numbers.Number.{Number}
+use Rattle.text.specs.declared.numbers.Optional.{Optional}
+use Rattle.text.specs.declared.lists.Listed.{Listed}
 use Rattle.lines.specs.Entering.{enteredAs, rowEntered, isBad, wellOf, RowInto}
 use Rattle.lines.proofs.Fields.{rowWritten}
 
 pub row-into : {fields : List Bytes} {one two three four five six : Bytes} {premises left right premises′ left′ right′ : List ℕ} {number : Number} {rule : ℕ} {principal : Optional} {a b d : Listed}
     → one ≡ getD fields 1 [] → two ≡ getD fields 2 [] → three ≡ getD fields 3 [] → four ≡ getD fields 4 [] → five ≡ getD fields 5 [] → six ≡ getD fields 6 []
-    → number ≡ numberAs (numberOf one) → rule ≡ ruleCode (ruleOf two) → principal ≡ principalAs (principalOf three)
+    → NumberRead one number → rule ≡ ruleCode (ruleOf two) → PrincipalRead three principal
     → ListedInto four premises premises′ a → ListedInto five left left′ b → ListedInto six right right′ d
     → RowInto fields premises left right premises′ left′ right′ (record { number = number; rule = rule; principal = principal; premises = a; left = b; right = d })
 row-into e1 e2 e3 e4 e5 e6 n r p x y z =
     record {
-      answer = cc;
+      answer = cc (n .answer, p .answer, x .answer, y .answer, z .answer);
       premises-stored = λ xs h. x .stored xs (ap listOf e4 ∙ h);
       left-stored = λ xs h. y .stored xs (ap listOf e5 ∙ h);
       right-stored = λ xs h. z .stored xs (ap listOf e6 ∙ h);
@@ -52,8 +53,8 @@ abbrev listsWell : Option (List ℕ) → Option (List ℕ) → Option (List ℕ)
 listsWell premises left right = listedAs premises .well && listedAs left .well && listedAs right .well
 
 module _ (n : ℕ) (s : Rule) (premises left right : Option (List ℕ)) where
-  no-rule : eqb (codeOf s) 37 ≡ false
-  no-rule = ne-eqb (codeOf s) 37 (λ e. omega (arith, code-below s))
+  no-rule : eqb (codeOf s) noRule ≡ false
+  no-rule = ne-eqb (codeOf s) noRule (λ e. omega (arith, code-below s))
 
   well-without : wellOf (enteredAs (some n) (some s) none premises left right) ≡ false
   well-without = ap (λ (t : Bool). not t && false && listedAs premises .well && listedAs left .well && listedAs right .well) no-rule

@@ -18,7 +18,8 @@ use Rattle.format.specs.Judged.{Place, next, settled, withRow, step}
 use Rattle.format.proofs.Booleans as booleans
 use Rattle.format.proofs.Stepping.{step-bad, step-row}
 use Rattle.format.proofs.Beginnings.{Good, step-good}
-use Rattle.text.specs.Answers.{laidOver, principalAs}
+use Rattle.text.specs.Numbers.{principalAs}
+use Rattle.text.specs.Lists.{laidOver}
 use Rattle.tables.specs.Records.{written, rowNumbers}
 use Rattle.tables.proofs.Placed.{length-padded}
 use Rattle.tables.proofs.Encoded.{put-encoded, put-row-encoded, rows-length}

@@ -10,8 +10,8 @@ use Rattle.format.specs.File.{File}
 use Rattle.format.specs.Tables.{mostOnSide}
 use Rattle.format.specs.Tests.{Test, _when_, first, claimTests}
 use Rattle.format.specs.Judged.{Place, Outcome, settled, withClaim}
-use Rattle.text.specs.Answers.{listedAs, laidOver}
-use Rattle.text.specs.declared.Listed.{Listed}
+use Rattle.text.specs.Lists.{listedAs, laidOver}
+use Rattle.text.specs.declared.lists.Listed.{Listed}
 use Rattle.lines.specs.Entering.{pastOf, badOf}
 use Rattle.lines.specs.declared.state.Counts.{Counts}
 use Rattle.lines.specs.declared.state.Stepped.{Stepped}

@@ -13,11 +13,12 @@ use Rattle.format.specs.File.{Row}
 use Rattle.format.specs.Line.{ruleOf}
 use Rattle.format.specs.Tables.{mostRows, mostEntries, mostOnSide}
 use Rattle.format.specs.Tests.{Test, _when_}
-use Rattle.text.specs.Words.{ruleCode}
-use Rattle.text.specs.Answers.{numberAs, principalAs, listedAs, laidOver}
-use Rattle.text.specs.declared.Number.{Number}
-use Rattle.text.specs.declared.Optional.{Optional}
-use Rattle.text.specs.declared.Listed.{Listed}
+use Rattle.text.specs.Words.{noRule, ruleCode}
+use Rattle.text.specs.Numbers.{numberAs, principalAs}
+use Rattle.text.specs.Lists.{listedAs, laidOver}
+use Rattle.text.specs.declared.numbers.Number.{Number}
+use Rattle.text.specs.declared.numbers.Optional.{Optional}
+use Rattle.text.specs.declared.lists.Listed.{Listed}
 use Rattle.lines.specs.declared.entered.Entered.{Entered}
 use Rattle.lines.specs.declared.state.Counts.{Counts}
 
@@ -56,7 +57,7 @@ isBad Optional.Bad = true
 
 -- every field is well written
 abbrev pub wellOf : Entered → Bool
-wellOf row = isNumber (row .number) && not (eqb (row .rule) 37) && not (isBad (row .principal)) && row .premises .well && row .left .well && row .right .well
+wellOf row = isNumber (row .number) && not (eqb (row .rule) noRule) && not (isBad (row .principal)) && row .premises .well && row .left .well && row .right .well
 
 -- some number of the list is not below `held`
 abbrev pub pastOf : Listed → ℕ → Bool

@@ -7,8 +7,8 @@ use lib.ListN.{length, getD}
 use Rattle.format.specs.File.{Row}
 use Rattle.format.specs.Tables.{absent, rowWidth}
 use Rattle.format.specs.Tests.{first}
-use Rattle.text.specs.Answers.{laidOver}
-use Rattle.text.specs.declared.Optional.{Optional}
+use Rattle.text.specs.Lists.{laidOver}
+use Rattle.text.specs.declared.numbers.Optional.{Optional}
 use Rattle.tables.specs.Records.{written, rowNumbers}
 use Rattle.tables.specs.declared.records.RowRecord.{RowRecord}
 use Rattle.rows.specs.declared.Draft.{Draft}

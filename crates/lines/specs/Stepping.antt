@@ -8,7 +8,8 @@ use Rattle.format.specs.File.{File}
 use Rattle.format.specs.Tables.{mostBytes}
 use Rattle.format.specs.Judged.{Place, step}
 use Rattle.format.proofs.Beginnings.{Good}
-use Rattle.text.specs.Answers.{between}
+use Rattle.text.specs.Refusals.{badLine}
+use Rattle.text.specs.Parts.{between}
 use Rattle.lines.specs.State.{Contents, Stored}
 use Rattle.lines.specs.Lined.{Lined}
 use Rattle.lines.specs.declared.state.Counts.{Counts}
@@ -22,4 +23,4 @@ pub record LineStepped (text : Bytes) (start end number : ℕ) (counts : Counts)
   pub inside :
       (f : File) (p : Place) (done : List Bytes) → Good done f → Stored text f counts before → start ≤ end → end ≤ length text → length text ≤ mostBytes
       → p .start ≡ start → p .line ≡ number → Lined text (step f p (between text start end)) counts r before after
-  pub outside : ((start ≤ end) × (end ≤ length text) → ⊥) → (r .number ≡ 3) × (r .counts ≡ counts) × (after ≡ before)
+  pub outside : ((start ≤ end) × (end ≤ length text) → ⊥) → (r .number ≡ badLine) × (r .counts ≡ counts) × (after ≡ before)

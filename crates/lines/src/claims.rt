@@ -8,13 +8,12 @@ ghost use Rattle.format.specs.File.{Body, File};
 ghost use Rattle.format.specs.Tests.{first, lastIs};
 ghost use Rattle.format.specs.Judged.{Place, step};
 ghost use Rattle.rows.specs.Ground.{Rows};
-ghost use Rattle.text.specs.Answers.{Fielded};
+ghost use Rattle.text.specs.Parts.{Fielded};
 ghost use Rattle.lines.specs.State.{Contents, Stored};
 ghost use Rattle.lines.specs.Entering.{numbered};
 ghost use Rattle.lines.specs.Lined.{OfKind, Lined};
 ghost use Rattle.lines.specs.Claiming.{claimOf, claimedBy, Laid, claimOutcome};
 use crate::entered::bad_sides;
-use crate::entered::field;
 use crate::entered::past;
 use crate::state::Counts;
 use crate::state::Stepped;
@@ -24,9 +23,11 @@ use rows::rules::rule_number;
 use tables::fetch;
 use tables::records::row;
 use tables::sides::same;
-use text::Fields;
-use text::Listed;
-use text::read_list;
+use text::lists::Listed;
+use text::lists::read_list;
+use text::parts::Fields;
+use text::parts::field;
+use text::refusals::BAD_LINE;
 
 // Whether the last of `count` rows is an ELK row with exactly these sides.
 fn last_is<'a>(
@@ -126,17 +127,17 @@ pub(crate) fn claim_line<'a>(
     ensures { λ s. ⌜ ((text : Bytes) (f : File) (p : Place) (t : Contents) → Stored text f counts t → p .line ≡ number → OfKind "C" (now (line .entry)) → t .rows ≡ now (rows .entry) → t .left ≡ now (left .entry) → t .right ≡ now (right .entry) → Lined text (step f p (now (line .entry))) counts s t t) ⌝ }
 {
     if fields.count != 3 {
-        return refused(3, counts);
+        return refused(BAD_LINE, counts);
     }
     let mut l = [0u16; 64];
     let mut r = [0u16; 64];
     let antecedent = read_list(field(line, fields, 1), &mut l);
     let succedent = read_list(field(line, fields, 2), &mut r);
     if !antecedent.well {
-        return refused(3, counts);
+        return refused(BAD_LINE, counts);
     }
     if !succedent.well {
-        return refused(3, counts);
+        return refused(BAD_LINE, counts);
     }
     settle_claim(
         antecedent,

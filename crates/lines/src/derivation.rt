@@ -10,7 +10,7 @@ ghost use Rattle.format.specs.Line.{rowLine, lineOf};
 ghost use Rattle.format.specs.Tables.{mostRows, mostEntries, mostOnSide};
 ghost use Rattle.format.specs.Judged.{Place, step};
 ghost use Rattle.format.proofs.Beginnings.{Good};
-ghost use Rattle.text.specs.Answers.{Fielded};
+ghost use Rattle.text.specs.Parts.{Fielded};
 ghost use Rattle.lines.specs.State.{Contents, Stored};
 ghost use Rattle.lines.specs.Lined.{OfKind, Lined, withTables};
 ghost use Rattle.lines.specs.Settling.{principalNumber, draftOf, recordOf, RowStored, Passing, RowLaid};
@@ -29,8 +29,9 @@ use rows::judge_row;
 use tables::records::RowRecord;
 use tables::records::put_row;
 use tables::records::put_side;
-use text::Fields;
-use text::Optional;
+use text::numbers::Optional;
+use text::parts::Fields;
+use text::refusals::BAD_LINE;
 
 // The principal formula as a number of a table, 65,535 if absent.
 fn principal_number(principal: Optional) -> u16
@@ -198,14 +199,14 @@ pub(crate) fn row_line(
     ensures { λ s. ⌜ ((text : Bytes) (done : List Bytes) (f : File) (p : Place) (t : Contents) → Good done f → Stored text f counts t → OfKind "N" (now (line .entry)) → t .formulas ≡ now (formulas .entry) → t .words ≡ now (words .entry) → t .rows ≡ now (rows .entry) → t .left ≡ now (left .entry) → t .right ≡ now (right .entry) → Lined text (step f p (now (line .entry))) counts s t (withTables t (now (rows .exit)) (now (left .exit)) (now (right .exit)))) ⌝ }
 {
     if fields.count != 7 {
-        return refused(3, counts);
+        return refused(BAD_LINE, counts);
     }
     let mut above = [65535u16; 2];
     let mut l = [0u16; 64];
     let mut r = [0u16; 64];
     let row = read_row(line, fields, &mut above, &mut l, &mut r);
     if !is_well(row) {
-        return refused(3, counts);
+        return refused(BAD_LINE, counts);
     }
     enter_row(
         row,

@@ -2,37 +2,26 @@
 // A badly written part is kept as what its reader answers; `is_well` tells.
 ghost use mathlib.Core.Path.{_≡_};
 ghost use mathlib.Core.Bool.{_||_};
-ghost use mathlib.Core.List.{[]};
-ghost use Prim.Native.Nat.{_+_, _<_};
+ghost use Prim.Native.Nat.{_+_};
 ghost use lib.Dec.{ltb};
-ghost use lib.ListN.{getD};
 ghost use Rattle.format.specs.Text.{fieldsOf};
 ghost use Rattle.format.specs.Tables.{mostEntries};
 ghost use Rattle.format.specs.Tests.{first};
-ghost use Rattle.text.specs.Answers.{Fielded};
+ghost use Rattle.text.specs.Parts.{Fielded};
 ghost use Rattle.lines.specs.Entering.{isNumber, isBad, RowInto, wellOf, pastOf, aheadOf, badOf, otherOf, orderOf, roomOf, referencesOf, earlyOf, numbered};
 use crate::state::Counts;
-use text::Fields;
-use text::Listed;
-use text::Number;
-use text::Optional;
-use text::read_list;
-use text::read_number;
-use text::read_principal;
-use text::rule_word;
+use text::lists::Listed;
+use text::lists::read_list;
+use text::numbers::Number;
+use text::numbers::Optional;
+use text::numbers::read_number;
+use text::numbers::read_principal;
+use text::parts::Fields;
+use text::parts::field;
+use text::words::NO_RULE;
+use text::words::rule_word;
 
-// Field i of a line that has it.
-pub(crate) fn field(line: &[u8], fields: Fields, i: usize) -> &[u8]
-    requires { ⌜ (Fielded (now line) fields) × (0 < i) × (i < 7) × (i < fields .count) ⌝ }
-    ensures { λ r. ⌜ now r ≡ getD (fieldsOf (now (line .entry))) i [] ⌝ }
-{
-    let before = fields.ends[i - 1];
-    let start = before + 1;
-    let end = fields.ends[i];
-    &line[start..end]
-}
-
-// A row as it is written: its number, rule (37 for none) and principal formula, and what is known of its lists.
+// A row as it is written: its number, rule (`NO_RULE` for none) and principal formula, and what is known of its lists.
 pub struct Entered {
     pub number: Number,
     pub rule: u32,
@@ -100,7 +89,7 @@ pub(crate) fn is_well(row: Entered) -> bool
     if !is_number(number) {
         return false;
     }
-    if row.rule == 37 {
+    if row.rule == NO_RULE {
         return false;
     }
     if is_bad(principal) {

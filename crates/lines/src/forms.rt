@@ -5,10 +5,9 @@ ghost use lib.ListN.{length};
 ghost use Rattle.format.specs.File.{Node, Body};
 ghost use Rattle.format.specs.Line.{nodeOf};
 ghost use Rattle.format.specs.Tests.{refersAhead};
-ghost use Rattle.text.specs.Answers.{Fielded};
+ghost use Rattle.text.specs.Parts.{Fielded};
 ghost use Rattle.lines.specs.Lined.{OfKind};
 ghost use Rattle.lines.specs.Drafts.{writtenAs, narrowed, FormulaNumbered, FormulaLined};
-use crate::entered::field;
 use crate::numbers::narrow;
 use crate::state::Counts;
 use crate::state::Stepped;
@@ -19,11 +18,14 @@ use tables::index::put_word;
 use tables::lookups::node_atoms;
 use tables::records::NodeRecord;
 use tables::records::put_node;
-use text::Fields;
-use text::Number;
-use text::formula_word;
-use text::is_dash;
-use text::read_number;
+use text::numbers::Number;
+use text::numbers::read_number;
+use text::parts::Fields;
+use text::parts::field;
+use text::parts::is_dash;
+use text::refusals::BAD_LINE;
+use text::words::NO_WORD;
+use text::words::formula_word;
 
 // A formula as it is written: a word from 0 to 5, and its operands, 65,535 where it has none.
 pub struct Written {
@@ -51,7 +53,7 @@ fn read_node(word_field: &[u8], first_field: &[u8], second_field: &[u8]) -> Writ
     ensures { λ r. ⌜ r ≡ writtenAs (nodeOf (now («word_field» .entry)) (now («first_field» .entry)) (now («second_field» .entry))) ⌝ }
 {
     let word = formula_word(word_field);
-    if word == 6 {
+    if word == NO_WORD {
         return badly();
     }
     if word == 0 {
@@ -163,11 +165,11 @@ pub(crate) fn formula_line(
     ensures { λ r. ⌜ FormulaLined (now (line .entry)) counts r (now (formulas .entry)) (now (words .entry)) (now (formulas .exit)) (now (words .exit)) ⌝ }
 {
     if fields.count != 5 {
-        return refused(3, counts);
+        return refused(BAD_LINE, counts);
     }
     let number = read_number(field(line, fields, 1));
     let Number::Value(n) = number else {
-        return refused(3, counts);
+        return refused(BAD_LINE, counts);
     };
     let node = read_node(
         field(line, fields, 2),
@@ -175,7 +177,7 @@ pub(crate) fn formula_line(
         field(line, fields, 4),
     );
     if !node.well {
-        return refused(3, counts);
+        return refused(BAD_LINE, counts);
     }
     let refusal = formula_number(formulas, words, counts, n, node);
     if refusal != 0 {

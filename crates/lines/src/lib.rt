@@ -16,9 +16,10 @@ use names::atom_line;
 use state::Counts;
 use state::Stepped;
 use state::refused;
-use text::Kind;
-use text::line_kind;
-use text::read_fields;
+use text::parts::read_fields;
+use text::refusals::BAD_LINE;
+use text::words::Kind;
+use text::words::line_kind;
 
 // The line from `start` to `end` of the text, which is line `number`. A place outside the text is refused as a bad line.
 pub fn step_line(
@@ -37,10 +38,10 @@ pub fn step_line(
     ensures { λ r. ⌜ LineStepped (now (text .entry)) start end number counts r (tables (now (names .entry)) (now (formulas .entry)) (now (words .entry)) (now (rows .entry)) (now (left .entry)) (now (right .entry))) (tables (now (names .exit)) (now (formulas .exit)) (now (words .exit)) (now (rows .exit)) (now (left .exit)) (now (right .exit))) ⌝ }
 {
     if end > text.len() {
-        return refused(3, counts);
+        return refused(BAD_LINE, counts);
     }
     if start > end {
-        return refused(3, counts);
+        return refused(BAD_LINE, counts);
     }
     let line = &text[start..end];
     let fields = read_fields(line);
@@ -51,6 +52,6 @@ pub fn step_line(
         Kind::Formula => formula_line(line, fields, formulas, words, counts),
         Kind::Row => row_line(line, fields, formulas, words, rows, left, right, counts),
         Kind::Claim => claim_line(line, fields, rows, left, right, counts, number),
-        Kind::Unknown => refused(3, counts),
+        Kind::Unknown => refused(BAD_LINE, counts),
     }
 }

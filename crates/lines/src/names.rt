@@ -2,20 +2,21 @@
 ghost use mathlib.Core.Path.{_≡_};
 ghost use Prim.Native.Nat.{_≤_};
 ghost use lib.ListN.{length};
-ghost use Rattle.text.specs.Answers.{between, Fielded};
+ghost use Rattle.text.specs.Parts.{between, Fielded};
 ghost use Rattle.lines.specs.Lined.{OfKind};
 ghost use Rattle.lines.specs.Drafts.{AtomNumbered, AtomLined};
-use crate::entered::field;
 use crate::numbers::place;
 use crate::state::Counts;
 use crate::state::Stepped;
 use crate::state::refused;
 use tables::lookups::name_used;
 use tables::records::put_name;
-use text::Fields;
-use text::Number;
-use text::is_name;
-use text::read_number;
+use text::names::is_name;
+use text::numbers::Number;
+use text::numbers::read_number;
+use text::parts::Fields;
+use text::parts::field;
+use text::refusals::BAD_LINE;
 
 // The first of the numbers 4 to 6 that applies to an atom, 0 if none does.
 fn atom_number(text: &[u8], names: &[u16], counts: Counts, n: u32, name: &[u8]) -> u32
@@ -53,13 +54,13 @@ pub(crate) fn atom_line(
     ensures { λ r. ⌜ AtomLined (now (text .entry)) start (between (now (text .entry)) start end) counts r (now (names .entry)) (now (names .exit)) ⌝ }
 {
     if fields.count != 3 {
-        return refused(3, counts);
+        return refused(BAD_LINE, counts);
     }
     let line = &text[start..end];
     let number_field = field(line, fields, 1);
     let number = read_number(number_field);
     let Number::Value(n) = number else {
-        return refused(3, counts);
+        return refused(BAD_LINE, counts);
     };
     let name = field(line, fields, 2);
     let refusal = atom_number(text, names, counts, n, name);

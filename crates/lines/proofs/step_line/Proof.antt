@@ -3,7 +3,7 @@ use borrow.Author.Needs.{needs}
 use native.Mathlib.Omega.{arith}
 use mathlib.Core.Path.{refl, sym, _∙_}
 use lib.Seq.{length-take-le}
-use Rattle.text.specs.declared.Kind.the-variants.{Atom, Formula, Row, Claim, Unknown}
+use Rattle.text.specs.declared.words.Kind.the-variants.{Atom, Formula, Row, Claim, Unknown}
 use Rattle.lines.specs.Stepping.{tables}
 use Rattle.lines.proofs.Dispatch.{unknown-line, first-inside, kind-is, stepped-outside, stepped, stepped-bad}
 use Rattle.lines.proofs.step_line.Statement.{statement}
@@ -43,13 +43,13 @@ enum-told : tie.Need-enum-told
 enum-told c = search needs
 
 atom-line-requires : tie.Need-atom-line-requires
-atom-line-requires c κs = (omega arith, omega arith, c .before .before .before .before .before .before .read-fields .ensures, kind-is _ _ (c .before .before .before .before .before .before .read-fields .ensures) Atom (sym (c .before .before .before .line-kind .ensures) ∙ c .before .enum-told .given .1))
+atom-line-requires c κs = (omega arith, omega arith, c .before .before .before .before .before .before .read-fields .ensures, kind-is _ _ (c .before .before .before .before .before .before .read-fields .ensures) Atom (sym (c .before .before .before .line-kind .ensures .answer) ∙ c .before .enum-told .given .1))
 
 enum-told-2 : tie.Need-enum-told-2
 enum-told-2 c = search needs
 
 formula-line-requires : tie.Need-formula-line-requires
-formula-line-requires c κs = (c .before .before .before .before .before .before .before .read-fields .ensures, kind-is _ _ (c .before .before .before .before .before .before .before .read-fields .ensures) Formula (sym (c .before .before .before .before .line-kind .ensures) ∙ c .before .before .enum-told2 .given .1))
+formula-line-requires c κs = (c .before .before .before .before .before .before .before .read-fields .ensures, kind-is _ _ (c .before .before .before .before .before .before .before .read-fields .ensures) Formula (sym (c .before .before .before .before .line-kind .ensures .answer) ∙ c .before .before .enum-told2 .given .1))
 
 enum-told-3 : tie.Need-enum-told-3
 enum-told-3 c = search needs
@@ -106,7 +106,7 @@ same-length-8 c = search needs
 returns-5 : tie.Need-returns-5
 returns-5 c =
     let held = (tables (c .before .before .before .before .before .before .before .before .before .before .before .before .before .before .before .before .before .before .before .before .before .before .before .before .before .before .before .before .args .names .now) (c .before .before .before .before .before .before .before .before .before .before .before .before .before .before .before .before .before .before .before .before .before .before .before .before .before .before .before .before .args .formulas .now) (c .before .before .before .before .before .before .before .before .before .before .before .before .before .before .before .before .before .before .before .before .before .before .before .before .before .before .before .before .args .words .now) (c .before .before .before .before .before .before .before .before .before .before .before .before .before .before .before .before .before .before .before .before .before .before .before .before .before .before .before .before .args .rows .now) (c .before .before .before .before .before .before .before .before .before .before .before .before .before .before .before .before .before .before .before .before .before .before .before .before .before .before .before .before .args .left .now) (c .before .before .before .before .before .before .before .before .before .before .before .before .before .before .before .before .before .before .before .before .before .before .before .before .before .before .before .before .args .right .now)) in
-    let kind = (kind-is _ _ (c .before .before .before .before .before .before .before .before .before .before .before .before .before .before .before .before .before .read-fields .ensures) Row (sym (c .before .before .before .before .before .before .before .before .before .before .before .before .before .before .line-kind .ensures) ∙ c .before .before .before .before .before .before .before .before .before .before .before .before .enum-told3 .given .1)) in
+    let kind = (kind-is _ _ (c .before .before .before .before .before .before .before .before .before .before .before .before .before .before .before .before .before .read-fields .ensures) Row (sym (c .before .before .before .before .before .before .before .before .before .before .before .before .before .before .line-kind .ensures .answer) ∙ c .before .before .before .before .before .before .before .before .before .before .before .before .enum-told3 .given .1)) in
     stepped _ _ _ _ _ _ (omega arith) (omega arith) _ _ (λ f p done g s size a b. c .before .before .before .before .before .before .row-line .ensures _ done f p held g s kind refl refl refl refl refl)
 
 same-length-9 : tie.Need-same-length-9
@@ -121,12 +121,12 @@ same-length-11 c = search needs
 returns-6 : tie.Need-returns-6
 returns-6 c =
     let held = (tables (c .before .before .before .before .before .before .before .before .before .before .before .before .before .before .before .before .before .before .before .before .args .names .now) (c .before .before .before .before .before .before .before .before .before .before .before .before .before .before .before .before .before .before .before .before .args .formulas .now) (c .before .before .before .before .before .before .before .before .before .before .before .before .before .before .before .before .before .before .before .before .args .words .now) (c .before .before .before .before .before .before .before .before .before .before .before .before .before .before .before .before .before .before .before .before .args .rows .now) (c .before .before .before .before .before .before .before .before .before .before .before .before .before .before .before .before .before .before .before .before .args .left .now) (c .before .before .before .before .before .before .before .before .before .before .before .before .before .before .before .before .before .before .before .before .args .right .now)) in
-    let kind = (kind-is _ _ (c .before .before .before .before .before .before .before .before .before .read-fields .ensures) Claim (sym (c .before .before .before .before .before .before .line-kind .ensures) ∙ c .before .before .before .before .enum-told4 .given .1)) in
+    let kind = (kind-is _ _ (c .before .before .before .before .before .before .before .before .before .read-fields .ensures) Claim (sym (c .before .before .before .before .before .before .line-kind .ensures .answer) ∙ c .before .before .before .before .enum-told4 .given .1)) in
     stepped _ _ _ _ _ _ (omega arith) (omega arith) _ _ (λ f p done g s size a b. c .claim-line .ensures _ f p held s b kind refl refl refl)
 
 returns-7 : tie.Need-returns-7
 returns-7 c =
-    let kind = (kind-is _ _ (c .before .before .before .before .before .before .read-fields .ensures) Unknown (sym (c .before .before .before .line-kind .ensures) ∙ c .before .enum-told5 .given .1)) in
+    let kind = (kind-is _ _ (c .before .before .before .before .before .before .read-fields .ensures) Unknown (sym (c .before .before .before .line-kind .ensures .answer) ∙ c .before .enum-told5 .given .1)) in
     stepped-bad _ _ _ _ _ _ (omega arith) (omega arith) _ (unknown-line _ kind) (c .refused3 .ensures)
 
 pub step-line-spec : {M : Type 1} → statement M

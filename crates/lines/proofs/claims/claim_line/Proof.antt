@@ -1,6 +1,6 @@
 -- `lines::claims::claim_line` meets its contract. Assumes nothing.
 use mathlib.Core.Path.{sym, _∙_}
-use lib.Dec.{lit≤}
+use lib.Dec.{lit≤, lit<}
 use borrow.Author.Needs.{needs}
 use borrow.Author.Tests.{not-true, not-false}
 use Rattle.lines.proofs.Claiming.{claim-miscounted, claim-left-bad, claim-right-bad, claim-read}
@@ -38,8 +38,9 @@ returns-2 : tie.Need-returns-2
 returns-2 c text f p t s at kind e k l =
     let second = c .before .before .before .before in
     let first = second .before .before .before .before in
-    claim-left-bad s p _ kind (sym (first .before .before .before .before .before .before .before .before .before .pre .counted) ∙ first .before .before .before .if1 .left)
-    (first .before .before .field .ensures) (second .before .before .field2 .ensures) (first .read-list .ensures) (second .read-list2 .ensures) _ (not-true (first .read-list .result .well) (c .before .if2 .taken)) (c .refused2 .ensures)
+    let pre = first .before .before .before .before .before .before .before .before .before .pre in
+    claim-left-bad s p _ kind (sym (pre .counted) ∙ first .before .before .before .if1 .left)
+    (first .before .before .field .ensures .field pre (lit< tt)) (second .before .before .field2 .ensures .field pre (lit< tt)) (first .read-list .ensures) (second .read-list2 .ensures) _ (not-true (first .read-list .result .well) (c .before .if2 .taken)) (c .refused2 .ensures)
 
 refused-requires-3 : tie.Need-refused-requires-3
 refused-requires-3 c κs = search needs
@@ -48,8 +49,9 @@ returns-3 : tie.Need-returns-3
 returns-3 c text f p t s at kind e k l =
     let second = c .before .before .before .before .before .before in
     let first = second .before .before .before .before in
-    claim-right-bad s p _ kind (sym (first .before .before .before .before .before .before .before .before .before .pre .counted) ∙ first .before .before .before .if1 .left)
-    (first .before .before .field .ensures) (second .before .before .field2 .ensures) (first .read-list .ensures) (second .read-list2 .ensures) _ (not-true (second .read-list2 .result .well) (c .before .if3 .taken)) (c .refused3 .ensures)
+    let pre = first .before .before .before .before .before .before .before .before .before .pre in
+    claim-right-bad s p _ kind (sym (pre .counted) ∙ first .before .before .before .if1 .left)
+    (first .before .before .field .ensures .field pre (lit< tt)) (second .before .before .field2 .ensures .field pre (lit< tt)) (first .read-list .ensures) (second .read-list2 .ensures) _ (not-true (second .read-list2 .result .well) (c .before .if3 .taken)) (c .refused3 .ensures)
 
 slice-aggregate-settle-claim : tie.Need-slice-aggregate-settle-claim
 slice-aggregate-settle-claim c = search needs
@@ -64,8 +66,9 @@ returns-4 : tie.Need-returns-4
 returns-4 c text f p t s at kind e k l =
     let second = c .before .before .before .before .before .before .before .before in
     let first = second .before .before .before .before in
-    claim-read s p _ kind (sym (first .before .before .before .before .before .before .before .before .before .pre .counted) ∙ first .before .before .before .if1 .left)
-    (first .before .before .field .ensures) (second .before .before .field2 .ensures) (first .read-list .ensures) (second .read-list2 .ensures) _ (not-false (first .read-list .result .well) (c .before .before .before .before .before .if2 .left)) (not-false (second .read-list2 .result .well) (c .before .before .before .if3 .left)) (lit≤ tt) (lit≤ tt)
+    let pre = first .before .before .before .before .before .before .before .before .before .pre in
+    claim-read s p _ kind (sym (pre .counted) ∙ first .before .before .before .if1 .left)
+    (first .before .before .field .ensures .field pre (lit< tt)) (second .before .before .field2 .ensures .field pre (lit< tt)) (first .read-list .ensures) (second .read-list2 .ensures) _ (not-false (first .read-list .result .well) (c .before .before .before .before .before .if2 .left)) (not-false (second .read-list2 .result .well) (c .before .before .before .if3 .left)) (lit≤ tt) (lit≤ tt)
     (λ xs ys x y. c .settle-claim .ensures text f p t xs ys s at x y e k l)
 
 pub claim-line-spec : {M : Type 1} → statement M

@@ -1,7 +1,7 @@
 -- `lines::entered::ahead` meets its contract. Assumes nothing.
 use mathlib.Core.Path.{sym, ap}
 use borrow.Author.Needs.{needs}
-use Rattle.text.specs.declared.Optional.{Optional}
+use Rattle.text.specs.declared.numbers.Optional.{Optional}
 use Rattle.lines.specs.Entering.{aheadOf}
 use Rattle.lines.proofs.entered.ahead.Statement.{statement}
 use Rattle.lines.proofs.entered.ahead.Tie as tie

@@ -1,7 +1,7 @@
 -- `lines::entered::is_other` meets its contract. Assumes nothing.
 use mathlib.Core.Path.{sym, ap}
 use borrow.Author.Needs.{needs}
-use Rattle.text.specs.declared.Number.{Number}
+use Rattle.text.specs.declared.numbers.Number.{Number}
 use Rattle.lines.specs.Entering.{otherOf}
 use Rattle.lines.proofs.entered.is_other.Statement.{statement}
 use Rattle.lines.proofs.entered.is_other.Tie as tie

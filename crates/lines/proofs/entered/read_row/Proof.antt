@@ -1,6 +1,6 @@
 -- `lines::entered::read_row` meets its contract. Assumes nothing.
 use borrow.Author.Needs.{needs}
-use native.Mathlib.Omega.{arith}
+use lib.Dec.{lit<}
 use Rattle.lines.proofs.Reading.{row-into}
 use Rattle.lines.proofs.entered.read_row.Statement.{statement}
 use Rattle.lines.proofs.entered.read_row.Tie as tie
@@ -36,7 +36,7 @@ read-list-requires-2 : tie.Need-read-list-requires-2
 read-list-requires-2 c κs = search needs
 
 field-requires-6 : tie.Need-field-requires-6
-field-requires-6 c κs = let pre = c .before .before .before .before .before .before .before .before .before .before .before .before .before .before .before .before .before .before .before .before .pre in (pre .0, omega arith, omega arith, omega (arith, pre .1))
+field-requires-6 c κs = search needs
 
 read-list-requires-3 : tie.Need-read-list-requires-3
 read-list-requires-3 c κs = search needs
@@ -56,8 +56,14 @@ returns c =
     let second = third .before .before .before .before .before in
     let first = second .before .before .before .before .before in
     let head = first .before .before .before in
+    let pre = head .before .before .before .before .before .before .before .before .before .before .pre in
     row-into
-    (head .before .before .before .before .before .field .ensures) (head .before .before .before .field2 .ensures) (head .before .field3 .ensures) (first .before .before .field4 .ensures) (second .before .before .field5 .ensures) (third .before .before .field6 .ensures)
+    (head .before .before .before .before .before .field .ensures .field (pre .0) (lit< tt))
+    (head .before .before .before .field2 .ensures .field (pre .0) (lit< tt))
+    (head .before .field3 .ensures .field (pre .0) (lit< tt))
+    (first .before .before .field4 .ensures .field (pre .0) (lit< tt))
+    (second .before .before .field5 .ensures .field (pre .0) (lit< tt))
+    (third .before .before .field6 .ensures .field (pre .0) (lit< tt))
     (head .before .before .before .before .read-number .ensures) (head .before .before .rule-word .ensures) (head .read-principal .ensures)
     (first .read-list .ensures) (second .read-list2 .ensures) (third .read-list3 .ensures)
 

@@ -3,9 +3,10 @@
 use borrow.Author.Needs.{needs}
 use native.Mathlib.Omega.{arith}
 use mathlib.Core.Path.{sym, ap, _∙_}
+use lib.Dec.{lit<}
 use borrow.Author.Tests.{not-true, not-false}
 use Rattle.format.specs.Text.{Bytes, numberOf}
-use Rattle.text.specs.Answers.{numberAs}
+use Rattle.text.specs.Numbers.{numberAs}
 use Rattle.lines.proofs.Nodes.{node-read, formula-miscounted, formula-unnumbered, formula-unwritten, formula-read, formula-bad, formula-refused, formula-lined}
 use Rattle.lines.proofs.forms.formula_line.Statement.{statement}
 use Rattle.lines.proofs.forms.formula_line.Tie as tie
@@ -33,8 +34,9 @@ refused-requires-2 c κs = search needs
 
 returns-2 : tie.Need-returns-2
 returns-2 c =
-    let bad = ap (λ (x : Bytes). numberAs (numberOf x)) (sym (c .before .before .before .before .field .ensures)) ∙ sym (c .before .before .before .read-number .ensures) ∙ c .before .enum-told .given .1 in
-    formula-bad _ _ _ (formula-unnumbered _ _ (c .before .before .before .before .before .before .before .before .before .before .pre .0) (c .before .before .before .before .before .before .before .before .before .before .pre .1) (c .before .before .before .before .before .if1 .left) bad) (c .refused2 .ensures)
+    let pre = c .before .before .before .before .before .before .before .before .before .before .pre in
+    let bad = ap (λ (x : Bytes). numberAs (numberOf x)) (sym (c .before .before .before .before .field .ensures .field (pre .0) (lit< tt))) ∙ sym (c .before .before .before .read-number .ensures .answer) ∙ c .before .enum-told .given .1 in
+    formula-bad _ _ _ (formula-unnumbered _ _ (pre .0) (pre .1) (c .before .before .before .before .before .if1 .left) bad) (c .refused2 .ensures)
 
 field-requires-2 : tie.Need-field-requires-2
 field-requires-2 c κs = search needs
@@ -53,9 +55,10 @@ refused-requires-3 c κs = search needs
 
 returns-3 : tie.Need-returns-3
 returns-3 c =
-    let value = ap (λ (x : Bytes). numberAs (numberOf x)) (sym (c .before .before .before .before .before .before .before .before .before .before .before .field .ensures)) ∙ sym (c .before .before .before .before .before .before .before .before .before .before .read-number .ensures) ∙ c .before .before .before .before .before .before .before .before .number .given .1 in
-    let node = node-read (c .before .before .before .before .before .before .field2 .ensures) (c .before .before .before .before .before .field3 .ensures) (c .before .before .before .before .field4 .ensures) (c .before .before .before .read-node .ensures) in
-    formula-bad _ _ _ (formula-unwritten _ _ (c .before .before .before .before .before .before .before .before .before .before .before .before .before .before .before .before .before .pre .0) (c .before .before .before .before .before .before .before .before .before .before .before .before .before .before .before .before .before .pre .1) (c .before .before .before .before .before .before .before .before .before .before .before .before .if1 .left) _ value _ node (not-true _ (c .before .if2 .taken))) (c .refused3 .ensures)
+    let pre = c .before .before .before .before .before .before .before .before .before .before .before .before .before .before .before .before .before .pre in
+    let value = ap (λ (x : Bytes). numberAs (numberOf x)) (sym (c .before .before .before .before .before .before .before .before .before .before .before .field .ensures .field (pre .0) (lit< tt))) ∙ sym (c .before .before .before .before .before .before .before .before .before .before .read-number .ensures .answer) ∙ c .before .before .before .before .before .before .before .before .number .given .1 in
+    let node = node-read (c .before .before .before .before .before .before .field2 .ensures .field (pre .0) (lit< tt)) (c .before .before .before .before .before .field3 .ensures .field (pre .0) (lit< tt)) (c .before .before .before .before .field4 .ensures .field (pre .0) (lit< tt)) (c .before .before .before .read-node .ensures) in
+    formula-bad _ _ _ (formula-unwritten _ _ (pre .0) (pre .1) (c .before .before .before .before .before .before .before .before .before .before .before .before .if1 .left) _ value _ node (not-true _ (c .before .if2 .taken))) (c .refused3 .ensures)
 
 formula-number-requires : tie.Need-formula-number-requires
 formula-number-requires c κs = search needs
@@ -71,9 +74,10 @@ same-length-2 c = search needs
 
 returns-4 : tie.Need-returns-4
 returns-4 c =
-    let value = ap (λ (x : Bytes). numberAs (numberOf x)) (sym (c .before .before .before .before .before .before .before .before .before .before .before .before .before .before .before .field .ensures)) ∙ sym (c .before .before .before .before .before .before .before .before .before .before .before .before .before .before .read-number .ensures) ∙ c .before .before .before .before .before .before .before .before .before .before .before .before .number .given .1 in
-    let node = node-read (c .before .before .before .before .before .before .before .before .before .before .field2 .ensures) (c .before .before .before .before .before .before .before .before .before .field3 .ensures) (c .before .before .before .before .before .before .before .before .field4 .ensures) (c .before .before .before .before .before .before .before .read-node .ensures) in
-    formula-refused _ _ _ _ _ _ _ (c .before .before .formula-number .ensures) (formula-read _ _ (c .before .before .before .before .before .before .before .before .before .before .before .before .before .before .before .before .before .before .before .before .before .pre .0) (c .before .before .before .before .before .before .before .before .before .before .before .before .before .before .before .before .before .before .before .before .before .pre .1) (c .before .before .before .before .before .before .before .before .before .before .before .before .before .before .before .before .if1 .left) _ value _ node (not-false _ (c .before .before .before .before .before .if2 .left)))
+    let pre = c .before .before .before .before .before .before .before .before .before .before .before .before .before .before .before .before .before .before .before .before .before .pre in
+    let value = ap (λ (x : Bytes). numberAs (numberOf x)) (sym (c .before .before .before .before .before .before .before .before .before .before .before .before .before .before .before .field .ensures .field (pre .0) (lit< tt))) ∙ sym (c .before .before .before .before .before .before .before .before .before .before .before .before .before .before .read-number .ensures .answer) ∙ c .before .before .before .before .before .before .before .before .before .before .before .before .number .given .1 in
+    let node = node-read (c .before .before .before .before .before .before .before .before .before .before .field2 .ensures .field (pre .0) (lit< tt)) (c .before .before .before .before .before .before .before .before .before .field3 .ensures .field (pre .0) (lit< tt)) (c .before .before .before .before .before .before .before .before .field4 .ensures .field (pre .0) (lit< tt)) (c .before .before .before .before .before .before .before .read-node .ensures) in
+    formula-refused _ _ _ _ _ _ _ (c .before .before .formula-number .ensures) (formula-read _ _ (pre .0) (pre .1) (c .before .before .before .before .before .before .before .before .before .before .before .before .before .before .before .before .if1 .left) _ value _ node (not-false _ (c .before .before .before .before .before .if2 .left)))
     _ (c .before .if3 .taken) (c .refused4 .ensures)
 
 record-of-requires : tie.Need-record-of-requires
@@ -105,9 +109,10 @@ same-length-4 c = search needs
 
 returns-5 : tie.Need-returns-5
 returns-5 c =
-    let value = ap (λ (x : Bytes). numberAs (numberOf x)) (sym (c .before .before .before .before .before .before .before .before .before .before .before .before .before .before .before .before .before .before .before .before .before .before .before .before .before .before .before .before .before .before .before .field .ensures)) ∙ sym (c .before .before .before .before .before .before .before .before .before .before .before .before .before .before .before .before .before .before .before .before .before .before .before .before .before .before .before .before .before .before .read-number .ensures) ∙ c .before .before .before .before .before .before .before .before .before .before .before .before .before .before .before .before .before .before .before .before .before .before .before .before .before .before .before .before .number .given .1 in
-    let node = node-read (c .before .before .before .before .before .before .before .before .before .before .before .before .before .before .before .before .before .before .before .before .before .before .before .before .before .before .field2 .ensures) (c .before .before .before .before .before .before .before .before .before .before .before .before .before .before .before .before .before .before .before .before .before .before .before .before .before .field3 .ensures) (c .before .before .before .before .before .before .before .before .before .before .before .before .before .before .before .before .before .before .before .before .before .before .before .before .field4 .ensures) (c .before .before .before .before .before .before .before .before .before .before .before .before .before .before .before .before .before .before .before .before .before .before .before .read-node .ensures) in
-    formula-lined _ _ _ _ _ _ _ (c .before .before .before .before .before .before .before .before .before .before .before .before .before .before .before .before .before .before .formula-number .ensures) (formula-read _ _ (c .before .before .before .before .before .before .before .before .before .before .before .before .before .before .before .before .before .before .before .before .before .before .before .before .before .before .before .before .before .before .before .before .before .before .before .before .before .pre .0) (c .before .before .before .before .before .before .before .before .before .before .before .before .before .before .before .before .before .before .before .before .before .before .before .before .before .before .before .before .before .before .before .before .before .before .before .before .before .pre .1) (c .before .before .before .before .before .before .before .before .before .before .before .before .before .before .before .before .before .before .before .before .before .before .before .before .before .before .before .before .before .before .before .before .if1 .left) _ value _ node (not-false _ (c .before .before .before .before .before .before .before .before .before .before .before .before .before .before .before .before .before .before .before .before .before .if2 .left)))
+    let pre = c .before .before .before .before .before .before .before .before .before .before .before .before .before .before .before .before .before .before .before .before .before .before .before .before .before .before .before .before .before .before .before .before .before .before .before .before .before .pre in
+    let value = ap (λ (x : Bytes). numberAs (numberOf x)) (sym (c .before .before .before .before .before .before .before .before .before .before .before .before .before .before .before .before .before .before .before .before .before .before .before .before .before .before .before .before .before .before .before .field .ensures .field (pre .0) (lit< tt))) ∙ sym (c .before .before .before .before .before .before .before .before .before .before .before .before .before .before .before .before .before .before .before .before .before .before .before .before .before .before .before .before .before .before .read-number .ensures .answer) ∙ c .before .before .before .before .before .before .before .before .before .before .before .before .before .before .before .before .before .before .before .before .before .before .before .before .before .before .before .before .number .given .1 in
+    let node = node-read (c .before .before .before .before .before .before .before .before .before .before .before .before .before .before .before .before .before .before .before .before .before .before .before .before .before .before .field2 .ensures .field (pre .0) (lit< tt)) (c .before .before .before .before .before .before .before .before .before .before .before .before .before .before .before .before .before .before .before .before .before .before .before .before .before .field3 .ensures .field (pre .0) (lit< tt)) (c .before .before .before .before .before .before .before .before .before .before .before .before .before .before .before .before .before .before .before .before .before .before .before .before .field4 .ensures .field (pre .0) (lit< tt)) (c .before .before .before .before .before .before .before .before .before .before .before .before .before .before .before .before .before .before .before .before .before .before .before .read-node .ensures) in
+    formula-lined _ _ _ _ _ _ _ (c .before .before .before .before .before .before .before .before .before .before .before .before .before .before .before .before .before .before .formula-number .ensures) (formula-read _ _ (pre .0) (pre .1) (c .before .before .before .before .before .before .before .before .before .before .before .before .before .before .before .before .before .before .before .before .before .before .before .before .before .before .before .before .before .before .before .before .if1 .left) _ value _ node (not-false _ (c .before .before .before .before .before .before .before .before .before .before .before .before .before .before .before .before .before .before .before .before .before .if2 .left)))
     (c .before .before .before .before .before .before .before .before .before .before .before .before .before .before .before .before .before .if3 .left) _ (c .before .before .before .before .before .before .before .before .before .before .before .before .before .before .before .record-of .ensures) _ (c .before .before .before .before .before .before .before .before .before .before .before .before .before .before .put-node .ensures) _ _ (c .before .before .before .before .before .before .before .before .node-atoms .ensures) (c .before .before .before .before .before .before .before .put-word .ensures) _ (c .before .before .before .record-of2 .ensures) _ (c .before .before .enter-node .ensures)
 
 pub formula-line-spec : {M : Type 1} → statement M

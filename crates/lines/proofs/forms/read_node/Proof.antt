@@ -49,7 +49,7 @@ badly-requires-4 : tie.Need-badly-requires-4
 badly-requires-4 c κs = search needs
 
 returns-5 : tie.Need-returns-5
-returns-5 c = c .badly4 .ensures ∙ first-bad _ _ _ _ (c .before .before .before .before .before .before .formula-word .ensures) (c .before .before .before .before .if2 .left) (sym (c .before .before .before .read-number .ensures) ∙ c .before .enum-told .given .1)
+returns-5 c = c .badly4 .ensures ∙ first-bad _ _ _ _ (c .before .before .before .before .before .before .formula-word .ensures) (c .before .before .before .before .if2 .left) (sym (c .before .before .before .read-number .ensures .answer) ∙ c .before .enum-told .given .1)
 
 is-dash-requires-3 : tie.Need-is-dash-requires-3
 is-dash-requires-3 c κs = search needs
@@ -58,10 +58,10 @@ badly-requires-5 : tie.Need-badly-requires-5
 badly-requires-5 c κs = search needs
 
 returns-6 : tie.Need-returns-6
-returns-6 c = c .badly5 .ensures ∙ one-operand-more _ _ _ _ (c .before .before .before .before .before .before .before .before .before .before .formula-word .ensures) (c .before .before .before .before .before .before .before .before .if2 .left) _ (sym (c .before .before .before .before .before .before .before .read-number .ensures) ∙ c .before .before .before .before .before .one .given .1) (c .before .before .before .if5 .taken) (sym (c .before .before .is-dash3 .ensures) ∙ not-true _ (c .before .if6 .taken))
+returns-6 c = c .badly5 .ensures ∙ one-operand-more _ _ _ _ (c .before .before .before .before .before .before .before .before .before .before .formula-word .ensures) (c .before .before .before .before .before .before .before .before .if2 .left) _ (sym (c .before .before .before .before .before .before .before .read-number .ensures .answer) ∙ c .before .before .before .before .before .one .given .1) (c .before .before .before .if5 .taken) (sym (c .before .before .is-dash3 .ensures) ∙ not-true _ (c .before .if6 .taken))
 
 returns-7 : tie.Need-returns-7
-returns-7 c = one-read _ _ _ _ (c .before .before .before .before .before .before .before .before .before .formula-word .ensures) (c .before .before .before .before .before .before .before .if2 .left) _ (sym (c .before .before .before .before .before .before .read-number .ensures) ∙ c .before .before .before .before .one .given .1) (c .before .before .if5 .taken) (sym (c .before .is-dash3 .ensures) ∙ not-false _ (c .if6 .left))
+returns-7 c = one-read _ _ _ _ (c .before .before .before .before .before .before .before .before .before .formula-word .ensures) (c .before .before .before .before .before .before .before .if2 .left) _ (sym (c .before .before .before .before .before .before .read-number .ensures .answer) ∙ c .before .before .before .before .one .given .1) (c .before .before .if5 .taken) (sym (c .before .is-dash3 .ensures) ∙ not-false _ (c .if6 .left))
 
 read-number-requires-2 : tie.Need-read-number-requires-2
 read-number-requires-2 c κs = search needs
@@ -76,10 +76,10 @@ badly-requires-6 : tie.Need-badly-requires-6
 badly-requires-6 c κs = search needs
 
 returns-8 : tie.Need-returns-8
-returns-8 c = c .badly6 .ensures ∙ second-bad _ _ _ _ (c .before .before .before .before .before .before .before .before .before .before .before .formula-word .ensures) (c .before .before .before .before .before .before .before .before .before .if2 .left) _ (sym (c .before .before .before .before .before .before .before .before .read-number .ensures) ∙ c .before .before .before .before .before .before .one .given .1) (c .before .before .before .before .if5 .left) (c .before .before .before .before .before .before .before .before .before .before .if1 .left) (sym (c .before .before .before .read-number2 .ensures) ∙ c .before .enum-told2 .given .1)
+returns-8 c = c .badly6 .ensures ∙ second-bad _ _ _ _ (c .before .before .before .before .before .before .before .before .before .before .before .formula-word .ensures) (c .before .before .before .before .before .before .before .before .before .if2 .left) _ (sym (c .before .before .before .before .before .before .before .before .read-number .ensures .answer) ∙ c .before .before .before .before .before .before .one .given .1) (c .before .before .before .before .if5 .left) (c .before .before .before .before .before .before .before .before .before .before .if1 .left) (sym (c .before .before .before .read-number2 .ensures .answer) ∙ c .before .enum-told2 .given .1)
 
 returns-9 : tie.Need-returns-9
-returns-9 c = two-read _ _ _ _ (c .before .before .before .before .before .before .before .before .before .before .before .formula-word .ensures) (c .before .before .before .before .before .before .before .before .before .if2 .left) _ (sym (c .before .before .before .before .before .before .before .before .read-number .ensures) ∙ c .before .before .before .before .before .before .one .given .1) (c .before .before .before .before .if5 .left) (c .before .before .before .before .before .before .before .before .before .before .if1 .left) _ (sym (c .before .before .before .read-number2 .ensures) ∙ c .before .two .given .1)
+returns-9 c = two-read _ _ _ _ (c .before .before .before .before .before .before .before .before .before .before .before .formula-word .ensures) (c .before .before .before .before .before .before .before .before .before .if2 .left) _ (sym (c .before .before .before .before .before .before .before .before .read-number .ensures .answer) ∙ c .before .before .before .before .before .before .one .given .1) (c .before .before .before .before .if5 .left) (c .before .before .before .before .before .before .before .before .before .before .if1 .left) _ (sym (c .before .before .before .read-number2 .ensures .answer) ∙ c .before .two .given .1)
 
 pub read-node-spec : {M : Type 1} → statement M
 read-node-spec =

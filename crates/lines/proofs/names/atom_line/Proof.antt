@@ -3,9 +3,10 @@ use borrow.Author.Needs.{needs}
 use Prim.Native.Nat.{_+_, _%_}
 use native.Mathlib.Omega.{arith}
 use mathlib.Core.Path.{sym, ap, _∙_}
+use lib.Dec.{lit<}
 use lib.ListN.{length}
 use Rattle.format.specs.Text.{Bytes, numberOf}
-use Rattle.text.specs.Answers.{numberAs}
+use Rattle.text.specs.Numbers.{numberAs}
 use Rattle.lines.proofs.Atoms.{atom-miscounted, atom-unnumbered, atom-read, name-fits, name-stands, numbered-as, atom-bad, atom-refused, atom-lined}
 use Rattle.lines.proofs.names.atom_line.Statement.{statement}
 use Rattle.lines.proofs.names.atom_line.Tie as tie
@@ -43,7 +44,7 @@ refused-requires-2 c κs = search needs
 returns-2 : tie.Need-returns-2
 returns-2 c =
     let pre = c .before .before .before .before .before .before .before .before .before .before .pre in
-    let bad = ap (λ (x : Bytes). numberAs (numberOf x)) (sym (c .before .before .before .before .field .ensures)) ∙ sym (c .before .before .before .read-number .ensures) ∙ c .before .enum-told .given .1 in
+    let bad = ap (λ (x : Bytes). numberAs (numberOf x)) (sym (c .before .before .before .before .field .ensures .field (pre .2) (lit< tt))) ∙ sym (c .before .before .before .read-number .ensures .answer) ∙ c .before .enum-told .given .1 in
     atom-bad _ _ _ _ (atom-unnumbered _ _ (pre .2) (pre .3) (c .before .before .before .before .before .before .if1 .left) bad) (c .refused2 .ensures)
 
 field-requires-2 : tie.Need-field-requires-2
@@ -61,8 +62,8 @@ same-length c = search needs
 returns-3 : tie.Need-returns-3
 returns-3 c =
     let pre = c .before .before .before .before .before .before .before .before .before .before .before .before .before .before .before .pre in
-    let value = ap (λ (x : Bytes). numberAs (numberOf x)) (sym (c .before .before .before .before .before .before .before .before .before .field .ensures)) ∙ sym (c .before .before .before .before .before .before .before .before .read-number .ensures) ∙ c .before .before .before .before .before .before .number .given .1 in
-    let numbers = numbered-as (c .before .before .before .before .field2 .ensures) (c .before .before .atom-number .ensures) in
+    let value = ap (λ (x : Bytes). numberAs (numberOf x)) (sym (c .before .before .before .before .before .before .before .before .before .field .ensures .field (pre .2) (lit< tt))) ∙ sym (c .before .before .before .before .before .before .before .before .read-number .ensures .answer) ∙ c .before .before .before .before .before .before .number .given .1 in
+    let numbers = numbered-as (c .before .before .before .before .field2 .ensures .field (pre .2) (lit< tt)) (c .before .before .atom-number .ensures) in
     atom-refused _ _ _ _ _ _ (atom-read _ _ (pre .2) (pre .3) (c .before .before .before .before .before .before .before .before .before .before .before .if1 .left) _ value) _ numbers _ (c .before .if2 .taken) (c .refused3 .ensures)
 
 add-name-start : tie.Need-add-name-start
@@ -71,7 +72,7 @@ add-name-start c = search needs
 add-name-start-2 : tie.Need-add-name-start-2
 add-name-start-2 c =
     let pre = c .before .before .before .before .before .before .before .before .before .before .before .before .before .before .pre in
-    omega (arith, name-fits _ _ _ (pre .0) (pre .1) _ (pre .2) (pre .3) (c .before .before .before .before .before .before .before .before .before .before .if1 .left), ap length (c .before .before .before .before .before .before .before .before .field .ensures))
+    omega (arith, name-fits _ _ _ (pre .0) (pre .1) _ (pre .2) (pre .3) (c .before .before .before .before .before .before .before .before .before .before .if1 .left), ap length (c .before .before .before .before .before .before .before .before .field .ensures .field (pre .2) (lit< tt)))
 
 place-requires : tie.Need-place-requires
 place-requires c κs = search needs
@@ -92,12 +93,12 @@ returns-4 : tie.Need-returns-4
 returns-4 c =
     let pre = c .before .before .before .before .before .before .before .before .before .before .before .before .before .before .before .before .before .before .before .before .pre in
     let three = c .before .before .before .before .before .before .before .before .before .before .before .before .before .before .before .before .if1 .left in
-    let first = c .before .before .before .before .before .before .before .before .before .before .before .before .before .before .field .ensures in
-    let value = ap (λ (x : Bytes). numberAs (numberOf x)) (sym first) ∙ sym (c .before .before .before .before .before .before .before .before .before .before .before .before .before .read-number .ensures) ∙ c .before .before .before .before .before .before .before .before .before .before .before .number .given .1 in
-    let numbers = numbered-as (c .before .before .before .before .before .before .before .before .before .field2 .ensures) (c .before .before .before .before .before .before .before .atom-number .ensures) in
+    let first = c .before .before .before .before .before .before .before .before .before .before .before .before .before .before .field .ensures .field (pre .2) (lit< tt) in
+    let value = ap (λ (x : Bytes). numberAs (numberOf x)) (sym first) ∙ sym (c .before .before .before .before .before .before .before .before .before .before .before .before .before .read-number .ensures .answer) ∙ c .before .before .before .before .before .before .before .before .before .before .before .number .given .1 in
+    let numbers = numbered-as (c .before .before .before .before .before .before .before .before .before .field2 .ensures .field (pre .2) (lit< tt)) (c .before .before .before .before .before .before .before .atom-number .ensures) in
     atom-lined _ _ _ _ _ _ (atom-read _ _ (pre .2) (pre .3) three _ value) _ numbers
     (name-fits _ _ _ (pre .0) (pre .1) _ (pre .2) (pre .3) three) (name-stands _ _ _ (pre .0) (pre .1) _ (pre .2) (pre .3) three) (c .before .before .before .before .before .before .if2 .left)
-    _ _ (c .before .before .before .before .place .ensures ∙ ap (λ (x : Bytes). (c .before .before .before .before .before .before .before .before .before .before .before .before .before .before .before .before .before .before .before .before .args .start + 3 + length x) % 65536) first) (c .before .before .before .place2 .ensures ∙ ap (λ (x : Bytes). length x % 65536) (c .before .before .before .before .before .before .before .before .before .field2 .ensures)) _ (c .before .before .put-name .ensures)
+    _ _ (c .before .before .before .before .place .ensures ∙ ap (λ (x : Bytes). (c .before .before .before .before .before .before .before .before .before .before .before .before .before .before .before .before .before .before .before .before .args .start + 3 + length x) % 65536) first) (c .before .before .before .place2 .ensures ∙ ap (λ (x : Bytes). length x % 65536) (c .before .before .before .before .before .before .before .before .before .field2 .ensures .field (pre .2) (lit< tt))) _ (c .before .before .put-name .ensures)
 
 pub atom-line-spec : {M : Type 1} → statement M
 atom-line-spec =
