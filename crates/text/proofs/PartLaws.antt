@@ -12,7 +12,8 @@ use lib.ListN.{length, getD, take, drop, length-take, length-drop, set, replicat
 use lib.Seq.{drop-cons, drop-drop, getD-drop, take-all, getD-set-same, getD-set-other, ext-getD}
 use borrow.Author.Tests.{eq-eqb, ne-eqb, lt-ltb, le-ltb, le-leb, lt-leb, eqb-true, ltb-true, ltb-false}
 use Rattle.format.specs.Text.{Bytes, partsAt, onto, tab, fieldsOf}
-use Rattle.text.specs.Parts.{before, nextAt, between, mostFields, endsOf, fieldsRead, startOf, FieldAt, Fielded, fieldBy, FieldPart}
+use Rattle.format.specs.Line.{mostFields}
+use Rattle.text.specs.Parts.{before, nextAt, between, endsOf, fieldsRead, startOf, FieldAt, Fielded, fieldBy, FieldPart}
 use Rattle.text.specs.declared.parts.Fields.{Fields}
 
 -- ---- the bytes before the first separator

@@ -6,6 +6,7 @@ use mathlib.Core.List.{List, [], _∷_}
 use lib.Dec.{eqb, leb, ltb}
 use lib.ListN.{length, getD, take, drop}
 use Rattle.format.specs.Text.{Bytes, fieldsOf}
+use Rattle.format.specs.Line.{mostFields}
 use Rattle.text.specs.declared.parts.Fields.{Fields}
 
 -- how many bytes stand before the first separator, or in all where there is none
@@ -22,10 +23,6 @@ abbrev pub between : Bytes → ℕ → ℕ → Bytes
 between bs start end = take (end - start) (drop start bs)
 
 -- ---- fields
-
--- the most fields of a line that is well written: those of an N line
-abbrev pub mostFields : ℕ
-mostFields = 7
 
 -- where the first n of some parts end, of which the first starts at a place and each other one past a separator; 0 for each that
 -- is not there

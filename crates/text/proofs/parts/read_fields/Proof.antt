@@ -7,7 +7,7 @@ use native.Mathlib.Omega.{arith}
 use borrow.Author.Needs.{needs}
 use lib.ListN.{length, set}
 use lib.Seq.{set-out}
-use Rattle.text.specs.Parts.{mostFields}
+use Rattle.format.specs.Line.{mostFields}
 use Rattle.text.proofs.PartLaws.{Fielding, fielding-none, end-bounds, fielding-more, fielded}
 use Rattle.text.proofs.parts.read_fields.Statement.{statement}
 use Rattle.text.proofs.parts.read_fields.Tie as tie
