@@ -1,0 +1,10 @@
+-- Laws of sides: of numbers on them, of answers that decide, of the tests of the rules, and of the formulas that known numbers
+-- stand for.
+pub mod Sets
+pub mod Deciding
+pub mod SharedSides
+pub mod NumberSides
+pub mod Decoded
+pub mod DecodedSides
+mod Equal
+mod Either

@@ -1,0 +1,4 @@
+pub mod Deciding
+pub mod Members
+pub mod Covering
+pub mod Numbers
