@@ -5,4 +5,3 @@ pub mod Counts
 pub mod Index
 pub mod Known
 pub mod Entering
-pub mod Members

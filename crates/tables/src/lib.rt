@@ -10,7 +10,6 @@ pub mod index;
 pub mod limits;
 pub mod names;
 pub mod records;
-pub mod sides;
 
 ghost use mathlib.Core.Path.{_≡_};
 ghost use lib.ListN.{length, replicate};
