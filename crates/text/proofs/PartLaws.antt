@@ -293,6 +293,11 @@ module _
 
 -- ---- a field by the ends that were read
 
+-- a line has a field, if an empty one
+some-field : (line : Bytes) → 1 ≤ length (fieldsOf line)
+unfolding fieldsOf
+some-field line = omega (arith, ap length (first-part tab line 0 (omega arith)))
+
 start-first : (ends : List ℕ) (i : ℕ) → i ≡ 0 → startOf ends i ≡ 0
 start-first ends zero h = refl
 start-first ends (suc i) h = absurd (omega arith)
@@ -302,18 +307,14 @@ start-past ends zero h = absurd (h refl)
 start-past ends (suc i) h = let e : i ≡ suc i - 1 = omega arith in ap (λ k. getD ends k 0 + 1) e
 
 module _ (line : Bytes) (f : Fields) (i : ℕ) where
-  by-ends : i < mostFields → i < f .count → startOf (f .ends) i ≤ getD (f .ends) i 0 → getD (f .ends) i 0 ≤ length line
+  by-ends : i < mostFields → startOf (f .ends) i ≤ getD (f .ends) i 0 → getD (f .ends) i 0 ≤ length line
       → fieldBy line f i ≡ between line (startOf (f .ends) i) (getD (f .ends) i 0)
   unfolding fieldBy
-  by-ends few there ordered inside = simp (lt-ltb i mostFields few, lt-ltb i (f .count) there, le-leb _ _ ordered, le-leb _ _ inside)
+  by-ends few ordered inside = simp (lt-ltb i mostFields few, le-leb _ _ ordered, le-leb _ _ inside)
 
   none-by-most : mostFields ≤ i → fieldBy line f i ≡ []
   unfolding fieldBy
   none-by-most h = simp (le-ltb i mostFields h)
-
-  none-by-count : f .count ≤ i → fieldBy line f i ≡ []
-  unfolding fieldBy
-  none-by-count h = simp (le-ltb i (f .count) h, and-false)
 
   none-by-start : getD (f .ends) i 0 < startOf (f .ends) i → fieldBy line f i ≡ []
   unfolding fieldBy
@@ -329,12 +330,13 @@ module _ (line : Bytes) (f : Fields) (i : ℕ) where
     where
       by-test : (t : Bool) → ltb i (f .count) ≡ t → fieldBy line f i ≡ getD (fieldsOf line) i []
       by-test true e =
-          let there = ltb-true i (f .count) e in
-          let found = p .found i few there in
-          by-ends few there (found .ordered) (found .inside) ∙ found .part
+          let found = p .found i few (ltb-true i (f .count) e) in
+          by-ends few (found .ordered) (found .inside) ∙ found .part
       by-test false e =
-          let past : length (fieldsOf line) ≤ i = omega (arith, p .counted, ltb-false i (f .count) e) in
-          none-by-count (ltb-false i (f .count) e) ∙ sym (List·getD-eq-default (fieldsOf line) [] past)
+          let past = ltb-false i (f .count) e in
+          let first : 0 < i = omega (arith, p .counted, some-field line) in
+          let start = start-past (f .ends) i (λ (e : i ≡ 0). omega arith) in
+          none-by-start (omega (arith, p .unused i few past)) ∙ sym (List·getD-eq-default (fieldsOf line) [] (omega (arith, p .counted)))
 
   field-part : {r : Bytes} → fieldBy line f i ≡ r → FieldPart line f i r
   field-part e = record { part = sym e; field = λ p few. sym e ∙ field-found p few }
@@ -342,24 +344,21 @@ module _ (line : Bytes) (f : Fields) (i : ℕ) where
   pub no-field-most : mostFields ≤ i → FieldPart line f i []
   no-field-most h = field-part (none-by-most h)
 
-  pub no-field-count : f .count ≤ i → FieldPart line f i []
-  no-field-count h = field-part (none-by-count h)
-
   pub no-field-end : length line < getD (f .ends) i 0 → FieldPart line f i []
   no-field-end h = field-part (none-by-end h)
 
   pub no-field-start : (i ≡ 0 → ⊥) → getD (f .ends) i 0 ≤ getD (f .ends) (i - 1) 0 → FieldPart line f i []
   no-field-start n h = field-part (none-by-start (omega (arith, start-past (f .ends) i n)))
 
-  module _ (few : i < mostFields) (there : i < f .count) (inside : getD (f .ends) i 0 ≤ length line) where
+  module _ (few : i < mostFields) (inside : getD (f .ends) i 0 ≤ length line) where
     pub field-first : i ≡ 0 → FieldPart line f i (take (getD (f .ends) i 0) line)
     field-first h =
         let start = start-first (f .ends) i h in
         let size : getD (f .ends) i 0 - 0 ≡ getD (f .ends) i 0 = omega arith in
-        field-part (by-ends few there (omega arith) inside ∙ ap (λ k. between line k (getD (f .ends) i 0)) start ∙ ap (λ n. take n line) size)
+        field-part (by-ends few (omega arith) inside ∙ ap (λ k. between line k (getD (f .ends) i 0)) start ∙ ap (λ n. take n line) size)
 
     pub field-later : (i ≡ 0 → ⊥) → getD (f .ends) (i - 1) 0 < getD (f .ends) i 0
         → FieldPart line f i (between line (getD (f .ends) (i - 1) 0 + 1) (getD (f .ends) i 0))
     field-later n h =
         let start = start-past (f .ends) i n in
-        field-part (by-ends few there (omega arith) inside ∙ ap (λ k. between line k (getD (f .ends) i 0)) start)
+        field-part (by-ends few (omega arith) inside ∙ ap (λ k. between line k (getD (f .ends) i 0)) start)

@@ -53,11 +53,11 @@ pub record Fielded (line : Bytes) (f : Fields) : Type 0 where
   pub found : (i : ℕ) → i < mostFields → i < f .count → FieldAt line (f .ends) i
   pub unused : (i : ℕ) → i < mostFields → f .count ≤ i → getD (f .ends) i 0 ≡ 0
 
--- field i, by the ends that were read, stands in the line: there is such a field, and its start and end lie in order inside
+-- the start and the end of field i, by the ends that were read, lie in order inside the line
 abbrev pub standsIn : Bytes → Fields → ℕ → Bool
-standsIn line f i = ltb i mostFields && ltb i (f .count) && leb (startOf (f .ends) i) (getD (f .ends) i 0) && leb (getD (f .ends) i 0) (length line)
+standsIn line f i = ltb i mostFields && leb (startOf (f .ends) i) (getD (f .ends) i 0) && leb (getD (f .ends) i 0) (length line)
 
--- field i by the ends that were read, of whichever line; empty where it does not stand in this one
+-- the part between them, whichever line was read; empty where they do not lie so
 unfoldable pub fieldBy : Bytes → Fields → ℕ → Bytes
 fieldBy line f i = cond (standsIn line f i) (between line (startOf (f .ends) i) (getD (f .ends) i 0)) []
 

@@ -98,15 +98,12 @@ pub fn read_fields(line: &[u8]) -> Fields
     }
 }
 
-// Field i of a line, by its fields as they were read; empty where there is no such field, or where it does not stand in this
-// line.
+// Field i of a line, by its fields as they were read; empty where there is no such field, or where its ends do not lie in order
+// inside this line.
 pub fn field(line: &[u8], fields: Fields, i: usize) -> &[u8]
     ensures { λ r. ⌜ FieldPart (now (line .entry)) fields i (now r) ⌝ }
 {
     if i >= MOST_FIELDS {
-        return &line[..0];
-    }
-    if i >= fields.count {
         return &line[..0];
     }
     let end = fields.ends[i];
