@@ -8,7 +8,6 @@ mod step;
 ghost use mathlib.Core.Path.{_≡_};
 ghost use Rattle.format.specs.File.{Row, Body};
 ghost use Rattle.format.specs.Tests.{first, ruleTests};
-ghost use lib.ListN.{take};
 ghost use Rattle.rows.specs.Judgement.{RowNumbered};
 ghost use Rattle.rows.specs.Judging.{Judging, numberOf};
 use draft::Draft;
@@ -16,21 +15,12 @@ use early::early_number;
 use premises::wrong_premises;
 use step::step_holds;
 use tables::counts::Counts;
+use tables::records::front;
 
 enum Verdict {
     Passes,
     WrongPremises,
     WrongStep,
-}
-
-// The first numbers of a table, as far as it has so many.
-fn front(table: &[u16], count: usize) -> &[u16]
-    ensures { λ r. ⌜ now r ≡ take count (now (table .entry)) ⌝ }
-{
-    if count > table.len() {
-        return table;
-    }
-    &table[..count]
 }
 
 // A row that passed the numbers before its rule.
@@ -53,7 +43,14 @@ fn judge_row<'a>(
         return Verdict::WrongPremises;
     }
     if step_holds(
-        formulas, words, rows, left, right, draft, antecedent, succedent,
+        formulas,
+        words,
+        rows,
+        left,
+        right,
+        draft,
+        antecedent,
+        succedent,
     ) {
         return Verdict::Passes;
     }

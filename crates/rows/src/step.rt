@@ -69,12 +69,24 @@ fn premised_step<'a>(
     let right_two = fetch(rows, left, right, false, second);
     if step == CUT {
         return cut_step(
-            p, antecedent, succedent, left_one, right_one, left_two, right_two,
+            p,
+            antecedent,
+            succedent,
+            left_one,
+            right_one,
+            left_two,
+            right_two,
         );
     }
     if step == UNSTABLE {
         return unstable_step(
-            formulas, words, antecedent, left_one, right_one, left_two, right_two,
+            formulas,
+            words,
+            antecedent,
+            left_one,
+            right_one,
+            left_two,
+            right_two,
         );
     }
     let premises = draft.premises;
@@ -117,6 +129,14 @@ pub(crate) fn step_holds<'a>(
         return initial_step(formulas, antecedent, succedent);
     }
     premised_step(
-        formulas, words, rows, left, right, draft, step, antecedent, succedent,
+        formulas,
+        words,
+        rows,
+        left,
+        right,
+        draft,
+        step,
+        antecedent,
+        succedent,
     )
 }

@@ -4,6 +4,7 @@
 ghost use mathlib.Core.Path.{_≡_};
 ghost use Prim.Native.Nat.{_*_};
 ghost use mathlib.Core.List.{[], _∷_};
+ghost use lib.ListN.{take};
 ghost use Rattle.format.specs.Tables.{rowWidth, rowAt};
 ghost use Rattle.format.specs.Tables.{part as partOf};
 ghost use Rattle.format.specs.Tables.{nameWidth, nodeWidth};
@@ -51,6 +52,17 @@ pub(crate) fn part(table: &[u16], start: u16, len: u16) -> &[u16]
         return &table[0..0];
     }
     &table[from..to]
+}
+
+// The first numbers of a table, as far as it has so many.
+pub fn front(table: &[u16], count: usize) -> &[u16]
+    ensures { λ r. ⌜ now r ≡ take count (now (table .entry)) ⌝ }
+{
+    if count > table.len() {
+        let all = table.len();
+        return &table[..all];
+    }
+    &table[..count]
 }
 
 // Record i of the formulas table.

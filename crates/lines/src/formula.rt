@@ -1,23 +1,20 @@
 // F lines.
 ghost use mathlib.Core.Path.{_≡_};
-ghost use mathlib.Core.Option.{none, some};
-ghost use lib.ListN.{length};
-ghost use Rattle.format.specs.File.{Node, Body};
+ghost use mathlib.Core.Option.{none};
 ghost use Rattle.format.specs.Line.{nodeOf};
-ghost use Rattle.format.specs.Tests.{refersAhead};
 ghost use Rattle.text.specs.Parts.{Fielded};
 ghost use Rattle.lines.specs.Lined.{OfKind};
-ghost use Rattle.lines.specs.Drafts.{writtenAs, narrowed, FormulaNumbered, FormulaLined};
+ghost use Rattle.lines.specs.FormulaLines.{writtenAs, narrowed, aheadIn, FormulaNumbered, FormulaLined};
 use crate::numbers::narrow;
-use crate::state::Counts;
+use crate::state::FORMULAS;
+use crate::state::State;
 use crate::state::Stepped;
-use crate::state::refused;
-use tables::index::enter_node;
-use tables::index::holds_node;
-use tables::index::put_word;
-use tables::lookups::node_atoms;
+use crate::state::out_of_order;
+use tables::counts::Counts;
+use tables::formulas::Entry;
+use tables::formulas::enter_formula;
+use tables::limits::MOST_FORMULAS;
 use tables::records::NodeRecord;
-use tables::records::put_node;
 use text::numbers::Number;
 use text::numbers::read_number;
 use text::parts::Fields;
@@ -99,7 +96,7 @@ fn read_node(word_field: &[u8], first_field: &[u8], second_field: &[u8]) -> Writ
 
 // Whether an operand is not earlier.
 fn refers_ahead(node: Written, counts: Counts) -> bool
-    ensures { λ r. ⌜ ((b : Body) (m : Node) → counts .atoms ≡ b .atoms → counts .formulas ≡ length (b .nodes) → node ≡ writtenAs (some m) → r ≡ refersAhead b m) ⌝ }
+    ensures { λ r. ⌜ r ≡ aheadIn node counts ⌝ }
 {
     let word = node.word;
     let first = node.first as usize;
@@ -130,46 +127,41 @@ fn record_of(node: Written) -> NodeRecord
     }
 }
 
-// The first of the numbers 4, 5, 7 and 8 that applies to a formula, 0 if none does.
-fn formula_number(formulas: &[u16], words: &[u64], counts: Counts, n: u32, node: Written) -> u32
-    ensures { λ r. ⌜ FormulaNumbered (now (formulas .entry)) (now (words .entry)) counts n node r ⌝ }
+// The first of the numbers 4, 5 and 7 that applies to a formula, 0 if none does.
+fn formula_number(state: State, n: u32, node: Written) -> u32
+    ensures { λ r. ⌜ FormulaNumbered state n node r ⌝ }
 {
-    let held = counts.formulas;
-    if 1 < counts.stage {
+    let counts = state.counts;
+    if out_of_order(state.stage, FORMULAS, counts.formulas, n) {
         return 4;
     }
-    if n as usize != held {
-        return 4;
-    }
-    if 1024 <= held {
+    if MOST_FORMULAS <= counts.formulas {
         return 5;
     }
     if refers_ahead(node, counts) {
         return 7;
     }
-    if holds_node(formulas, words, record_of(node)) {
-        return 8;
-    }
     0
 }
 
-// An F line, taken into its fields.
+// An F line, taken into its fields; it is line `number`.
 pub(crate) fn formula_line(
     line: &[u8],
+    number: u32,
     fields: Fields,
     formulas: &mut [u16],
     words: &mut [u64],
-    counts: Counts,
+    state: State,
 ) -> Stepped
     requires { ⌜ (Fielded (now line) fields) × OfKind "F" (now line) ⌝ }
-    ensures { λ r. ⌜ FormulaLined (now (line .entry)) counts r (now (formulas .entry)) (now (words .entry)) (now (formulas .exit)) (now (words .exit)) ⌝ }
+    ensures { λ r. ⌜ FormulaLined (now (line .entry)) number state r (now (formulas .entry)) (now (words .entry)) (now (formulas .exit)) (now (words .exit)) ⌝ }
 {
     if fields.count != 5 {
-        return refused(BAD_LINE, counts);
+        return state.refused(BAD_LINE, number);
     }
-    let number = read_number(field(line, fields, 1));
-    let Number::Value(n) = number else {
-        return refused(BAD_LINE, counts);
+    let own = read_number(field(line, fields, 1));
+    let Number::Value(n) = own else {
+        return state.refused(BAD_LINE, number);
     };
     let node = read_node(
         field(line, fields, 2),
@@ -177,21 +169,17 @@ pub(crate) fn formula_line(
         field(line, fields, 4),
     );
     if !node.well {
-        return refused(BAD_LINE, counts);
+        return state.refused(BAD_LINE, number);
     }
-    let refusal = formula_number(formulas, words, counts, n, node);
+    let refusal = formula_number(state, n, node);
     if refusal != 0 {
-        return refused(refusal, counts);
+        return state.refused(refusal, number);
     }
-    let held = counts.formulas;
-    put_node(formulas, held, record_of(node));
-    put_word(words, held, node_atoms(formulas, words, held));
-    enter_node(words, held, record_of(node));
-    let mut next = counts;
-    next.formulas = held + 1;
-    next.stage = 1;
-    Stepped {
-        number: 0,
-        counts: next,
+    let counts = state.counts;
+    let entry = enter_formula(formulas, words, counts.formulas, record_of(node));
+    match entry {
+        Entry::Held(_) => state.refused(8, number),
+        Entry::Full => state.refused(5, number),
+        Entry::New(_) => state.passed(counts.with_formula(), FORMULAS, number),
     }
 }
