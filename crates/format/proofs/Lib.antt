@@ -6,3 +6,9 @@ pub mod Formulas
 pub mod Beginnings
 pub mod Accepted
 pub mod Examples
+pub mod Joined
+pub mod WrittenNumbers
+pub mod WrittenLines
+pub mod Passing
+pub mod WrittenDocuments
+pub mod WrittenExamples

@@ -5,3 +5,5 @@ pub mod Tables
 pub mod Tests
 pub mod Judged
 pub mod Held
+pub mod Written
+pub mod Document
