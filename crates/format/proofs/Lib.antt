@@ -12,3 +12,4 @@ pub mod WrittenLines
 pub mod Passing
 pub mod WrittenDocuments
 pub mod WrittenExamples
+pub mod Numbering

@@ -7,3 +7,4 @@ pub mod Judged
 pub mod Held
 pub mod Written
 pub mod Document
+pub mod Transcript

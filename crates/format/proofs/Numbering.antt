@@ -1,0 +1,280 @@
+-- Formulas listed so that each has its parts before it and stands once: any formulas can be listed so, with no more than
+-- their subformulas, and such a list is that of the formulas of good nodes.
+use Prim.Native.Nat.{ℕ, _≤_, _<_}
+use mathlib.Core.Path.{_≡_, refl, sym, ap, ap₂, subst, _∙_}
+use mathlib.Core.Bool.{false}
+use mathlib.Core.List.{List, [], _∷_, _++_, map, map-append, append-nil, append-assoc, List·Memᴰ·head, List·Memᴰ·tail, List·Memᴰ·not-nil, List·Memᴰ·cases-cons}
+use mathlib.Core.List.{List·Memᴰ·append-cases, List·Memᴰ·eq-of-singleton, Memᴰ·append-left, Memᴰ·append-right, Memᴰ·cast, Memᴰ·of-map}
+use mathlib.Core.Logic.{_⊎_, inl, inr, ⊎-elim}
+use native.Mathlib.Omega.{arith}
+use lib.Dec.{leb}
+use lib.ListN.{length, length-map}
+use borrow.Author.Tests.{lt-leb}
+use Rattle.equilibrium.specs.Formula.{Formula, falsum, atom, neg, conj, disj, imp, atomsOf, atomsIn}
+use Rattle.equilibrium.specs.Meaning.{_∈_, _⊆_, _≈_}
+use Rattle.equilibrium.proofs.Sets.{dec-in}
+use Rattle.elk.proofs.Equality.{formula-discrete}
+use Rattle.format.specs.File.{Node, formulaAt, formulaOf, formulasAfter, formulas, decodedAt}
+use Rattle.format.specs.Tests.{refersAhead}
+use Rattle.format.specs.Document.{InTurn, GoodNode}
+use Rattle.format.specs.Transcript.{subformulas, subformulasIn}
+use Rattle.format.proofs.Formulas.{nodeFrom, position, position-among}
+
+-- ---- items that are good in turn
+
+module _ {X : Type 0} (P : List X → X → Type 0) where
+  pub in-turn-snoc : (before xs : List X) (x : X) → InTurn P before xs → P (before ++ xs) x → InTurn P before (xs ++ x ∷ [])
+  in-turn-snoc before [] x h p = (subst (λ ys. P ys x) (append-nil before) p, tt)
+  in-turn-snoc before (y ∷ ys) x h p = (h .0, in-turn-snoc (before ++ y ∷ []) ys x (h .1) (subst (λ zs. P zs x) (sym (append-assoc before (y ∷ []) ys)) p))
+
+-- ---- the list
+
+-- the parts that a formula is made of
+abbrev partsOf : Formula → List Formula
+partsOf falsum = []
+partsOf (atom p) = []
+partsOf (neg A) = A ∷ []
+partsOf (conj A B) = A ∷ B ∷ []
+partsOf (disj A B) = A ∷ B ∷ []
+partsOf (imp A B) = A ∷ B ∷ []
+
+-- a formula that can come next: its parts are there, and it is not
+abbrev Next : List Formula → Formula → Type 0
+Next before A = (partsOf A ⊆ before) × (A ∈ before → ⊥)
+
+abbrev Numbering : List Formula → Type 0
+Numbering fs = InTurn Next [] fs
+
+-- a longer list that has these formulas too, and nothing that they do not need
+record Longer (fs As : List Formula) : Type 0 where
+  all : List Formula
+  numbering : Numbering all
+  kept : fs ⊆ all
+  there : As ⊆ all
+  needed : (B : Formula) → B ∈ all → (B ∈ fs) ⊎ (B ∈ subformulasIn As)
+
+longer-nil : (fs : List Formula) → Numbering fs → Longer fs []
+longer-nil fs n = record { all = fs; numbering = n; kept = λ B m. m; there = λ B m. absurd (List·Memᴰ·not-nil m); needed = λ B m. inl m }
+
+own-subformula : (A : Formula) → A ∈ subformulas A
+own-subformula falsum = List·Memᴰ·head refl
+own-subformula (atom p) = List·Memᴰ·head refl
+own-subformula (neg A) = List·Memᴰ·head refl
+own-subformula (conj A B) = List·Memᴰ·head refl
+own-subformula (disj A B) = List·Memᴰ·head refl
+own-subformula (imp A B) = List·Memᴰ·head refl
+
+parts-below : (A B : Formula) → B ∈ subformulasIn (partsOf A) → B ∈ subformulas A
+parts-below falsum B m = absurd (List·Memᴰ·not-nil m)
+parts-below (atom p) B m = absurd (List·Memᴰ·not-nil m)
+parts-below (neg C) B m = List·Memᴰ·tail (subst (λ bs. B ∈ bs) (append-nil (subformulas C)) m)
+parts-below (conj C D) B m = List·Memᴰ·tail (subst (λ bs. B ∈ subformulas C ++ bs) (append-nil (subformulas D)) m)
+parts-below (disj C D) B m = List·Memᴰ·tail (subst (λ bs. B ∈ subformulas C ++ bs) (append-nil (subformulas D)) m)
+parts-below (imp C D) B m = List·Memᴰ·tail (subst (λ bs. B ∈ subformulas C ++ bs) (append-nil (subformulas D)) m)
+
+-- where the parts are there, the formula comes at the end unless it is there already
+add-next : {fs : List Formula} (A : Formula) → Longer fs (partsOf A) → Longer fs (A ∷ [])
+add-next {fs} A l = cases (dec-in formula-discrete A (l .all))
+  where
+    below : (B : Formula) → B ∈ l .all → (B ∈ fs) ⊎ (B ∈ subformulas A ++ [])
+    below B m = ⊎-elim inl (λ k. inr (Memᴰ·append-left [] (parts-below A B k))) (l .needed B m)
+
+    cases : Dec (A ∈ l .all) → Longer fs (A ∷ [])
+    cases (yes m) = record { all = l .all; numbering = l .numbering; kept = l .kept; there = λ B k. Memᴰ·cast (List·Memᴰ·eq-of-singleton k) m; needed = below }
+    cases (no n) =
+        record {
+          all = l .all ++ A ∷ [];
+          numbering = in-turn-snoc Next [] (l .all) A (l .numbering) (l .there, n);
+          kept = λ B m. Memᴰ·append-left (A ∷ []) (l .kept B m);
+          there = λ B m. Memᴰ·append-right (l .all) m;
+          needed = λ B m. ⊎-elim (below B) (λ k. inr (Memᴰ·append-left [] (Memᴰ·cast (List·Memᴰ·eq-of-singleton k) (own-subformula A)))) (List·Memᴰ·append-cases (l .all) m);
+        }
+
+subformulas-append : (As Bs : List Formula) → subformulasIn (As ++ Bs) ≡ subformulasIn As ++ subformulasIn Bs
+subformulas-append [] Bs = refl
+subformulas-append (A ∷ As) Bs = rw (subformulas-append As Bs, append-assoc)
+
+-- one after the other
+then : {fs As Bs : List Formula} (l : Longer fs As) → Longer (l .all) Bs → Longer fs (As ++ Bs)
+then {fs} {As} {Bs} l k =
+    record {
+      all = k .all;
+      numbering = k .numbering;
+      kept = λ B m. k .kept B (l .kept B m);
+      there = λ B m. ⊎-elim (λ i. k .kept B (l .there B i)) (k .there B) (List·Memᴰ·append-cases As m);
+      needed = λ B m. ⊎-elim (earlier B) (λ i. inr (joined B (inr i))) (k .needed B m);
+    }
+  where
+    joined : (B : Formula) → (B ∈ subformulasIn As) ⊎ (B ∈ subformulasIn Bs) → B ∈ subformulasIn (As ++ Bs)
+    joined B (inl m) = subst (λ bs. B ∈ bs) (sym (subformulas-append As Bs)) (Memᴰ·append-left (subformulasIn Bs) m)
+    joined B (inr m) = subst (λ bs. B ∈ bs) (sym (subformulas-append As Bs)) (Memᴰ·append-right (subformulasIn As) m)
+
+    earlier : (B : Formula) → B ∈ l .all → (B ∈ fs) ⊎ (B ∈ subformulasIn (As ++ Bs))
+    earlier B m = ⊎-elim inl (λ i. inr (joined B (inl i))) (l .needed B m)
+
+enter : (fs : List Formula) → Numbering fs → (A : Formula) → Longer fs (A ∷ [])
+enter fs n falsum = add-next falsum (longer-nil fs n)
+enter fs n (atom p) = add-next (atom p) (longer-nil fs n)
+enter fs n (neg A) = add-next (neg A) (enter fs n A)
+enter fs n (conj A B) = add-next (conj A B) (then (enter fs n A) (enter _ (enter fs n A .numbering) B))
+enter fs n (disj A B) = add-next (disj A B) (then (enter fs n A) (enter _ (enter fs n A .numbering) B))
+enter fs n (imp A B) = add-next (imp A B) (then (enter fs n A) (enter _ (enter fs n A .numbering) B))
+
+enter-all : (fs : List Formula) → Numbering fs → (As : List Formula) → Longer fs As
+enter-all fs n [] = longer-nil fs n
+enter-all fs n (A ∷ As) = let l = enter fs n A in then l (enter-all (l .all) (l .numbering) As)
+
+-- an atom of a subformula is one of the formula
+
+either-atoms : {B : Formula} {As Cs : List Formula} {ps qs : List ℕ} → (B ∈ As → atomsOf B ⊆ ps) → (B ∈ Cs → atomsOf B ⊆ qs) → B ∈ As ++ Cs → atomsOf B ⊆ ps ++ qs
+either-atoms {As = As} {ps = ps} {qs = qs} h k m p i = ⊎-elim (λ j. Memᴰ·append-left qs (h j p i)) (λ j. Memᴰ·append-right ps (k j p i)) (List·Memᴰ·append-cases As m)
+
+part-atoms : (A B : Formula) → B ∈ subformulas A → atomsOf B ⊆ atomsOf A
+part-atoms falsum B m p k = subst (λ C. p ∈ atomsOf C) (List·Memᴰ·eq-of-singleton m) k
+part-atoms (atom q) B m p k = subst (λ C. p ∈ atomsOf C) (List·Memᴰ·eq-of-singleton m) k
+part-atoms (neg A) B m p k = ⊎-elim (λ (e : B ≡ neg A). subst (λ C. p ∈ atomsOf C) e k) (λ i. part-atoms A B i p k) (List·Memᴰ·cases-cons m)
+part-atoms (conj A C) B m p k = ⊎-elim (λ (e : B ≡ conj A C). subst (λ D. p ∈ atomsOf D) e k) (λ i. either-atoms (part-atoms A B) (part-atoms C B) i p k) (List·Memᴰ·cases-cons m)
+part-atoms (disj A C) B m p k = ⊎-elim (λ (e : B ≡ disj A C). subst (λ D. p ∈ atomsOf D) e k) (λ i. either-atoms (part-atoms A B) (part-atoms C B) i p k) (List·Memᴰ·cases-cons m)
+part-atoms (imp A C) B m p k = ⊎-elim (λ (e : B ≡ imp A C). subst (λ D. p ∈ atomsOf D) e k) (λ i. either-atoms (part-atoms A B) (part-atoms C B) i p k) (List·Memᴰ·cases-cons m)
+
+occurs-below : (As : List Formula) (B : Formula) (p : ℕ) → B ∈ subformulasIn As → p ∈ atomsOf B → p ∈ atomsIn As
+occurs-below [] B p m k = absurd (List·Memᴰ·not-nil m)
+occurs-below (A ∷ As) B p m k = ⊎-elim (λ i. Memᴰ·append-left (atomsIn As) (part-atoms A B i p k)) (λ i. Memᴰ·append-right (atomsOf A) (occurs-below As B p i k)) (List·Memᴰ·append-cases (subformulas A) m)
+
+-- ---- what a list has of a formula, it has of its parts
+
+parts-there : (before rest : List Formula) → InTurn Next before rest → (A : Formula) → A ∈ rest → partsOf A ⊆ before ++ rest
+parts-there before [] n A m = absurd (List·Memᴰ·not-nil m)
+parts-there before (B ∷ Bs) n A m =
+    ⊎-elim (λ (e : A ≡ B). λ C k. Memᴰ·append-left (B ∷ Bs) (n .0 .0 C (subst (λ D. C ∈ partsOf D) e k)))
+    (λ i C k. subst (λ ds. C ∈ ds) (append-assoc before (B ∷ []) Bs) (parts-there (before ++ B ∷ []) Bs (n .1) A i C k)) (List·Memᴰ·cases-cons m)
+
+two : {A : Formula} {As Bs fs : List Formula} → A ∈ fs → As ⊆ fs → Bs ⊆ fs → A ∷ As ++ Bs ⊆ fs
+two {As = As} m a b B k = ⊎-elim (λ e. Memᴰ·cast e m) (λ i. ⊎-elim (a B) (b B) (List·Memᴰ·append-cases As i)) (List·Memᴰ·cases-cons k)
+
+module _ (fs : List Formula) (n : Numbering fs) where
+  closed : (A : Formula) → A ∈ fs → partsOf A ⊆ fs
+  closed = parts-there [] fs n
+
+  subformulas-there : (A : Formula) → A ∈ fs → subformulas A ⊆ fs
+  subformulas-there falsum m B k = Memᴰ·cast (List·Memᴰ·eq-of-singleton k) m
+  subformulas-there (atom p) m B k = Memᴰ·cast (List·Memᴰ·eq-of-singleton k) m
+  subformulas-there (neg A) m B k = ⊎-elim (λ e. Memᴰ·cast e m) (subformulas-there A (closed _ m A (List·Memᴰ·head refl)) B) (List·Memᴰ·cases-cons k)
+  subformulas-there (conj A C) m B k = two m (subformulas-there A (closed _ m A (List·Memᴰ·head refl))) (subformulas-there C (closed _ m C (List·Memᴰ·tail (List·Memᴰ·head refl)))) B k
+  subformulas-there (disj A C) m B k = two m (subformulas-there A (closed _ m A (List·Memᴰ·head refl))) (subformulas-there C (closed _ m C (List·Memᴰ·tail (List·Memᴰ·head refl)))) B k
+  subformulas-there (imp A C) m B k = two m (subformulas-there A (closed _ m A (List·Memᴰ·head refl))) (subformulas-there C (closed _ m C (List·Memᴰ·tail (List·Memᴰ·head refl)))) B k
+
+-- ---- the nodes of a list
+
+-- a node made of a formula stands for it, where the numbers stand for its parts
+formula-back : (number : Formula → ℕ) (ts : List Formula) (A : Formula) → ((B : Formula) → B ∈ partsOf A → formulaAt ts (number B) ≡ B)
+    → formulaOf ts (nodeFrom number A) ≡ A
+formula-back number ts falsum h = refl
+formula-back number ts (atom p) h = refl
+formula-back number ts (neg A) h = ap neg (h A (List·Memᴰ·head refl))
+formula-back number ts (conj A B) h = ap₂ conj (h A (List·Memᴰ·head refl)) (h B (List·Memᴰ·tail (List·Memᴰ·head refl)))
+formula-back number ts (disj A B) h = ap₂ disj (h A (List·Memᴰ·head refl)) (h B (List·Memᴰ·tail (List·Memᴰ·head refl)))
+formula-back number ts (imp A B) h = ap₂ imp (h A (List·Memᴰ·head refl)) (h B (List·Memᴰ·tail (List·Memᴰ·head refl)))
+
+module _ (whole : List Formula) where
+  -- the node of a formula, with its parts' places in the whole list
+  abbrev nodeOf : Formula → Node
+  nodeOf A = nodeFrom (position whole) A
+
+  abbrev nodesOf : List Node
+  nodesOf = map nodeOf whole
+
+  place : (before rest : List Formula) → whole ≡ before ++ rest → (A : Formula) → A ∈ before
+      → (position whole A < length before) × (formulaAt before (position whole A) ≡ A)
+  place before rest e A m = subst (λ ts. (position ts A < length before) × (formulaAt before (position ts A) ≡ A)) (sym e) (position-among before rest A m)
+
+  formulas-after : (before rest : List Formula) → whole ≡ before ++ rest → InTurn Next before rest → formulasAfter before (map nodeOf rest) ≡ before ++ rest
+  formulas-after before [] e n = sym (append-nil before)
+  formulas-after before (A ∷ As) e n =
+      ap (λ (B : Formula). formulasAfter (before ++ B ∷ []) (map nodeOf As)) (formula-back (position whole) before A (λ B m. place before (A ∷ As) e B (n .0 .0 B m) .1))
+      ∙ formulas-after (before ++ A ∷ []) As (e ∙ sym (append-assoc before (A ∷ []) As)) (n .1)
+      ∙ append-assoc before (A ∷ []) As
+
+  module _ (n : Numbering whole) where
+    -- the formulas of the nodes are those listed
+    formulas-listed : formulas nodesOf ≡ whole
+    unfolding formulas
+    formulas-listed = formulas-after [] whole refl n
+
+    node-back : (A : Formula) → A ∈ whole → formulaOf whole (nodeOf A) ≡ A
+    node-back A m = formula-back (position whole) whole A (λ B k. place whole [] (sym (append-nil whole)) B (closed whole n A m B k) .1)
+
+    module _ (atoms : ℕ) (few : (p : ℕ) → atom p ∈ whole → p < atoms) where
+      refers-back : (before rest : List Formula) → whole ≡ before ++ rest → (A : Formula) → A ∈ whole → partsOf A ⊆ before
+          → refersAhead (record { atoms = atoms; nodes = map nodeOf before; rows = [] }) (nodeOf A) ≡ false
+      refers-back before rest e = by-form
+        where
+          earlier : (B : Formula) → B ∈ before → leb (length (map nodeOf before)) (position whole B) ≡ false
+          earlier B m = rw (length-map before nodeOf) (lt-leb (length before) (position whole B) (place before rest e B m .0))
+
+          by-form : (A : Formula) → A ∈ whole → partsOf A ⊆ before → refersAhead (record { atoms = atoms; nodes = map nodeOf before; rows = [] }) (nodeOf A) ≡ false
+          by-form falsum m h = refl
+          by-form (atom p) m h = lt-leb atoms p (few p m)
+          by-form (neg A) m h = rw (earlier A (h A (List·Memᴰ·head refl)))
+          by-form (conj A B) m h = rw (earlier A (h A (List·Memᴰ·head refl)), earlier B (h B (List·Memᴰ·tail (List·Memᴰ·head refl))))
+          by-form (disj A B) m h = rw (earlier A (h A (List·Memᴰ·head refl)), earlier B (h B (List·Memᴰ·tail (List·Memᴰ·head refl))))
+          by-form (imp A B) m h = rw (earlier A (h A (List·Memᴰ·head refl)), earlier B (h B (List·Memᴰ·tail (List·Memᴰ·head refl))))
+
+      nodes-good-after : (before rest : List Formula) → whole ≡ before ++ rest → InTurn Next before rest → InTurn (GoodNode atoms) (map nodeOf before) (map nodeOf rest)
+      nodes-good-after before [] e t = tt
+      nodes-good-after before (A ∷ As) e t =
+          let more = nodes-good-after (before ++ A ∷ []) As (e ∙ sym (append-assoc before (A ∷ []) As)) (t .1) in
+          ((refers-back before (A ∷ As) e A here (t .0 .0), new), subst (λ ns. InTurn (GoodNode atoms) ns (map nodeOf As)) (map-append nodeOf before (A ∷ [])) more)
+        where
+          among : {B : Formula} → B ∈ before ++ A ∷ As → B ∈ whole
+          among {B} m = subst (λ ts. B ∈ ts) (sym e) m
+
+          here : A ∈ whole
+          here = among (Memᴰ·append-right before (List·Memᴰ·head refl))
+
+          -- equal nodes would stand for equal formulas
+          new : nodeOf A ∈ map nodeOf before → ⊥
+          new m =
+              let B = Memᴰ·of-map nodeOf before m in
+              let same = sym (node-back (B .0) (among (Memᴰ·append-left (A ∷ As) (B .1)))) ∙ ap (formulaOf whole) (B .2) ∙ node-back A here in
+              t .0 .1 (Memᴰ·cast (sym same) (B .1))
+
+      nodes-good : InTurn (GoodNode atoms) [] nodesOf
+      nodes-good = nodes-good-after [] whole refl n
+
+-- nodes for any formulas whose atoms are below a number
+pub record NodesFor (atoms : ℕ) (As : List Formula) : Type 0 where
+  pub nodes : List Node
+  pub good : InTurn (GoodNode atoms) [] nodes
+  pub needed : formulas nodes ≈ subformulasIn As
+  pub number : (A : Formula) → A ∈ As → (i : ℕ) × (i < length nodes) × (decodedAt nodes i ≡ A)
+
+pub nodes-for : (atoms : ℕ) (As : List Formula) → ((p : ℕ) → p ∈ atomsIn As → p < atoms) → NodesFor atoms As
+nodes-for atoms As below =
+    record {
+      nodes = nodesOf (l .all);
+      good = nodes-good (l .all) (l .numbering) atoms few;
+      needed = subst (λ fs. fs ≈ subformulasIn As) (sym listed) (λ B m. only B (l .needed B m), all-there As (l .there));
+      number = number;
+    }
+  where
+    l : Longer [] As
+    l = enter-all [] tt As
+
+    listed : formulas (nodesOf (l .all)) ≡ l .all
+    listed = formulas-listed (l .all) (l .numbering)
+
+    only : (B : Formula) → (B ∈ []) ⊎ (B ∈ subformulasIn As) → B ∈ subformulasIn As
+    only B m = ⊎-elim (λ k. absurd (List·Memᴰ·not-nil k)) (λ k. k) m
+
+    all-there : (Bs : List Formula) → Bs ⊆ l .all → subformulasIn Bs ⊆ l .all
+    all-there [] h B m = absurd (List·Memᴰ·not-nil m)
+    all-there (C ∷ Cs) h B m = ⊎-elim (subformulas-there (l .all) (l .numbering) C (h C (List·Memᴰ·head refl)) B) (all-there Cs (λ D k. h D (List·Memᴰ·tail k)) B) (List·Memᴰ·append-cases (subformulas C) m)
+
+    few : (p : ℕ) → atom p ∈ l .all → p < atoms
+    few p m = below p (occurs-below As (atom p) p (only (atom p) (l .needed (atom p) m)) (List·Memᴰ·head refl))
+
+    number : (A : Formula) → A ∈ As → (i : ℕ) × (i < length (nodesOf (l .all))) × (decodedAt (nodesOf (l .all)) i ≡ A)
+    number A m =
+        let at = place (l .all) (l .all) [] (sym (append-nil (l .all))) A (l .there A m) in
+        (position (l .all) A, rw (length-map (l .all) (nodeOf (l .all))) (at .0), ap (λ (fs : List Formula). formulaAt fs (position (l .all) A)) listed ∙ at .1)

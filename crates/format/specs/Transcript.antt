@@ -1,0 +1,88 @@
+-- The transcript of a derivation: a body whose rows are those of a derivation of `elk`, one for one, with numbers for its
+-- formulas and premises; and its text. Transcribing proves that every derivation has one, good if within the most counts.
+use Prim.Native.Nat.{ℕ, _≤_}
+use mathlib.Core.Path.{_≡_}
+use mathlib.Core.Bool.{false}
+use mathlib.Core.List.{List, [], _∷_, _++_}
+use mathlib.Core.Option.{Option, none, some}
+use lib.ListN.{length}
+use Rattle.equilibrium.specs.Formula.{Formula, falsum, atom, neg, conj, disj, imp}
+use Rattle.equilibrium.specs.Meaning.{_∈_, _≈_}
+use Rattle.elk.specs.Sequent.{Sequent, Same, AllSame}
+use Rattle.elk.specs.Rules.{Rule}
+use Rattle.elk.specs.Derivation.{Derivation, start, row, EndsIn}
+use Rattle.format.specs.Text.{Bytes, _<$>_}
+use Rattle.format.specs.File.{Node, Row, Body, formulas, decodedAt, decoded, sequentOf}
+use Rattle.format.specs.Tables.{Lent, tooShort, leftPool, rightPool, encode, mostAtoms, mostFormulas, mostRows, mostEntries, mostOnSide, mostBytes}
+use Rattle.format.specs.Tests.{premisesOf}
+use Rattle.format.specs.Judged.{accepted, judged, contents}
+use Rattle.format.specs.Document.{Document, linesIn, written, bodyOf, fileOf, GoodBody}
+
+-- a formula and all its parts
+abbrev pub subformulas : Formula → List Formula
+subformulas falsum = falsum ∷ []
+subformulas (atom p) = atom p ∷ []
+subformulas (neg A) = neg A ∷ subformulas A
+subformulas (conj A B) = conj A B ∷ subformulas A ++ subformulas B
+subformulas (disj A B) = disj A B ∷ subformulas A ++ subformulas B
+subformulas (imp A B) = imp A B ∷ subformulas A ++ subformulas B
+
+-- those of some formulas
+abbrev pub subformulasIn : List Formula → List Formula
+subformulasIn [] = []
+subformulasIn (A ∷ As) = subformulas A ++ subformulasIn As
+
+-- a principal formula, where there is one
+abbrev pub principals : Option Formula → List Formula
+principals none = []
+principals (some A) = A ∷ []
+
+-- the formulas that a derivation names: the principal formulas and the sides of its rows
+abbrev pub formulasIn : {rows : List Sequent} → Derivation rows → List Formula
+formulasIn start = []
+formulasIn (row d r F premises {s = s} inside i) = principals F ++ (s .left ++ (s .right ++ formulasIn d))
+
+-- a row, with the body before it, is the step of a derivation from these premises to s by the rule r
+pub record IsStep (b : Body) (q : Row) (r : Rule) (F : Option Formula) (premises : List Sequent) (s : Sequent) : Type 0 where
+  pub rule : q .rule ≡ r
+  pub principal : (decodedAt (b .nodes) <$> q .principal) ≡ F
+  pub premises-same : AllSame (premisesOf b q) premises
+  pub sequent : Same (sequentOf (b .nodes) q) s
+
+-- the rows are the steps of the derivation, in its order
+abbrev pub AreSteps : ℕ → List Node → {ss : List Sequent} → List Row → Derivation ss → Type 0
+AreSteps atoms nodes rows start = rows ≡ []
+AreSteps atoms nodes rows (row d r F premises {s = s} inside i) =
+    (before : List Row) × (q : Row) × (rows ≡ before ++ q ∷ []) × AreSteps atoms nodes before d
+    × IsStep (record { atoms = atoms; nodes = nodes; rows = before }) q r F premises s
+
+-- the body is within the most counts of 01
+pub record Within (b : Body) : Type 0 where
+  pub atoms : b .atoms ≤ mostAtoms
+  pub nodes : length (b .nodes) ≤ mostFormulas
+  pub rows : length (b .rows) ≤ mostRows
+  pub left-pool : length (leftPool (b .rows)) ≤ mostEntries
+  pub right-pool : length (rightPool (b .rows)) ≤ mostEntries
+  pub left : (r : Row) → r ∈ b .rows → length (r .left) ≤ mostOnSide
+  pub right : (r : Row) → r ∈ b .rows → length (r .right) ≤ mostOnSide
+
+-- formulas and rows for a derivation, over so many atoms
+pub record Transcript (atoms : ℕ) {ss : List Sequent} (d : Derivation ss) : Type 0 where
+  pub nodes : List Node
+  pub rows : List Row
+  pub steps : AreSteps atoms nodes rows d
+  -- nothing is numbered that the derivation does not need
+  pub needed : formulas nodes ≈ subformulasIn (formulasIn d)
+  pub good : Within (record { atoms = atoms; nodes = nodes; rows = rows }) → GoodBody (record { atoms = atoms; nodes = nodes; rows = rows })
+
+-- a whole file with these names whose rows are a derivation of L => R and whose claim is L => R
+pub record TextFor (names : List Bytes) {L R : List Formula} (e : EndsIn L R) : Type 0 where
+  pub document : Document
+  pub names-given : document .names ≡ names
+  pub steps : AreSteps (length names) (document .nodes) (document .rows) (e .derivation)
+  pub needed : formulas (document .nodes) ≈ subformulasIn (formulasIn (e .derivation))
+  pub left : decoded (document .nodes) (document .left) ≈ L
+  pub right : decoded (document .nodes) (document .right) ≈ R
+  -- it is accepted, if it is within the limits
+  pub accepted-if : Within (bodyOf document) → length (written document) ≤ mostBytes → (t : Lent) → tooShort t ≡ false
+      → (judged t (written document) ≡ accepted (length (linesIn document))) × (contents t (written document) ≡ encode (fileOf document))
