@@ -13,3 +13,5 @@ pub mod Passing
 pub mod WrittenDocuments
 pub mod WrittenExamples
 pub mod Numbering
+pub mod InstancePasses
+pub mod Transcribing
