@@ -1,6 +1,6 @@
 -- Being an instance is a matter of sequents as sets, and an instance passes the tests of its rule.
 use Prim.Native.Nat.{ℕ}
-use mathlib.Core.Path.{_≡_, refl, ap₂, subst}
+use mathlib.Core.Path.{_≡_, refl, ap₂}
 use mathlib.Core.Bool.{Bool, true, false, not, _&&_, _||_}
 use mathlib.Core.List.{List, [], _∷_, map}
 use mathlib.Core.Option.{Option, none, some, IsSome}
@@ -11,7 +11,7 @@ use Rattle.elk.specs.Sequent.{Kind, elk, refutation, Sequent, Same, AllSame}
 use Rattle.elk.specs.Rules.{Entry, schema, default, cut, unstable, initial, entry, hasPrincipal, premiseKinds}
 use Rattle.elk.specs.Instance.{InstanceOf, Instance}
 use Rattle.elk.proofs.Steps.{same-trans}
-use Rattle.elk.proofs.Faithful.{instance-shaped}
+use Rattle.elk.proofs.Faithful.{Shaped, instance-shaped}
 use Rattle.elk.proofs.Decision.{instance?}
 use Rattle.format.specs.Text.{_<$>_}
 use Rattle.format.specs.File.{Row, Body, decodedAt, sequentOf}
@@ -26,9 +26,18 @@ all-same-trans (s ∷ ss) (t ∷ ts) [] e f = absurd f
 all-same-trans (s ∷ ss) (t ∷ ts) (u ∷ us) e f = (same-trans (e .0) (f .0), all-same-trans ss ts us (e .1) (f .1))
 
 -- the same premises and conclusion, as sets
-pub instance-same : (e : Entry) (F : Option Formula) (ps qs : List Sequent) {s t : Sequent} → AllSame qs ps → Same t s → InstanceOf e F ps s → InstanceOf e F qs t
+pub instance-same : (e : Entry) (F : Option Formula) (ps qs : List Sequent) {s t : Sequent} → AllSame qs ps → Same t s
+    → InstanceOf e F ps s → InstanceOf e F qs t
 instance-same (schema x) (some F) ps qs a b i =
-    record { first = i .first; second = i .second; fits = i .fits; L = i .L; R = i .R; above = all-same-trans qs ps _ a (i .above); below = same-trans b (i .below) }
+    record {
+      first = i .first;
+      second = i .second;
+      fits = i .fits;
+      L = i .L;
+      R = i .R;
+      above = all-same-trans qs ps _ a (i .above);
+      below = same-trans b (i .below);
+    }
 instance-same (schema x) none ps qs a b i = absurd i
 instance-same default (some F) ps qs a b i =
     record {
@@ -90,12 +99,15 @@ yes-not-no : {X : Type 0} (d : Dec X) → X → isNo d ≡ false
 yes-not-no (yes x) y = refl
 yes-not-no (no n) y = absurd (n y)
 
-pub rule-passes : (b : Body) (r : Row) → Instance (r .rule) (decodedAt (b .nodes) <$> r .principal) (premisesOf b r) (sequentOf (b .nodes) r) → Passes (ruleTests b r)
-unfolding wrongPremises wrongStep
-rule-passes b r i = (ap₂ (λ (t u : Bool). not t || not u) principal kinds, (yes-not-no (instance? _ _ _ _) i, tt))
-  where
-    principal : sameTruth (present (r .principal)) (hasPrincipal (entry (r .rule))) ≡ true
-    principal = truth-same (r .principal) (decodedAt (b .nodes)) (hasPrincipal (entry (r .rule))) (instance-shaped (entry (r .rule)) (decodedAt (b .nodes) <$> r .principal) i .principal)
+module _ (b : Body) (r : Row) (i : Instance (r .rule) (decodedAt (b .nodes) <$> r .principal) (premisesOf b r) (sequentOf (b .nodes) r)) where
+  shaped : Shaped (entry (r .rule)) (decodedAt (b .nodes) <$> r .principal) (premisesOf b r) (sequentOf (b .nodes) r)
+  shaped = instance-shaped (entry (r .rule)) (decodedAt (b .nodes) <$> r .principal) i
 
-    kinds : sameKinds (map (λ s. s .kind) (premisesOf b r)) (premiseKinds (entry (r .rule))) ≡ true
-    kinds = subst (λ (ks : List Kind). sameKinds (map (λ (s : Sequent). s .kind) (premisesOf b r)) ks ≡ true) (instance-shaped (entry (r .rule)) (decodedAt (b .nodes) <$> r .principal) i .above) (kinds-same (map (λ (s : Sequent). s .kind) (premisesOf b r)))
+  kinds : sameKinds (map (λ s. s .kind) (premisesOf b r)) (premiseKinds (entry (r .rule))) ≡ true
+  kinds = rw (← shaped .above) (kinds-same (map (λ (s : Sequent). s .kind) (premisesOf b r)))
+
+  pub rule-passes : Passes (ruleTests b r)
+  unfolding wrongPremises wrongStep
+  rule-passes =
+      let principal = truth-same (r .principal) (decodedAt (b .nodes)) (hasPrincipal (entry (r .rule))) (shaped .principal) in
+      (ap₂ (λ (t u : Bool). not t || not u) principal kinds, (yes-not-no (instance? _ _ _ _) i, tt))

@@ -14,4 +14,5 @@ pub mod WrittenDocuments
 pub mod WrittenExamples
 pub mod Numbering
 pub mod InstancePasses
+pub mod PlainNames
 pub mod Transcribing

@@ -1,12 +1,11 @@
 -- Formulas listed so that each has its parts before it and stands once: any formulas can be listed so, with no more than
 -- their subformulas, and such a list is that of the formulas of good nodes.
-use Prim.Native.Nat.{ℕ, _≤_, _<_}
+use Prim.Native.Nat.{ℕ, _<_}
 use mathlib.Core.Path.{_≡_, refl, sym, ap, ap₂, subst, _∙_}
 use mathlib.Core.Bool.{false}
 use mathlib.Core.List.{List, [], _∷_, _++_, map, map-append, append-nil, append-assoc, List·Memᴰ·head, List·Memᴰ·tail, List·Memᴰ·not-nil, List·Memᴰ·cases-cons}
 use mathlib.Core.List.{List·Memᴰ·append-cases, List·Memᴰ·eq-of-singleton, Memᴰ·append-left, Memᴰ·append-right, Memᴰ·cast, Memᴰ·of-map}
 use mathlib.Core.Logic.{_⊎_, inl, inr, ⊎-elim}
-use native.Mathlib.Omega.{arith}
 use lib.Dec.{leb}
 use lib.ListN.{length, length-map}
 use borrow.Author.Tests.{lt-leb}
@@ -14,7 +13,7 @@ use Rattle.equilibrium.specs.Formula.{Formula, falsum, atom, neg, conj, disj, i
 use Rattle.equilibrium.specs.Meaning.{_∈_, _⊆_, _≈_}
 use Rattle.equilibrium.proofs.Sets.{dec-in}
 use Rattle.elk.proofs.Equality.{formula-discrete}
-use Rattle.format.specs.File.{Node, formulaAt, formulaOf, formulasAfter, formulas, decodedAt}
+use Rattle.format.specs.File.{Node, Body, formulaAt, formulaOf, formulasAfter, formulas, decodedAt}
 use Rattle.format.specs.Tests.{refersAhead}
 use Rattle.format.specs.Document.{InTurn, GoodNode}
 use Rattle.format.specs.Transcript.{subformulas, subformulasIn}
@@ -25,7 +24,15 @@ use Rattle.format.proofs.Formulas.{nodeFrom, position, position-among}
 module _ {X : Type 0} (P : List X → X → Type 0) where
   pub in-turn-snoc : (before xs : List X) (x : X) → InTurn P before xs → P (before ++ xs) x → InTurn P before (xs ++ x ∷ [])
   in-turn-snoc before [] x h p = (subst (λ ys. P ys x) (append-nil before) p, tt)
-  in-turn-snoc before (y ∷ ys) x h p = (h .0, in-turn-snoc (before ++ y ∷ []) ys x (h .1) (subst (λ zs. P zs x) (sym (append-assoc before (y ∷ []) ys)) p))
+  in-turn-snoc before (y ∷ ys) x h p =
+      (h .0, in-turn-snoc (before ++ y ∷ []) ys x (h .1) (subst (λ zs. P zs x) (sym (append-assoc before (y ∷ []) ys)) p))
+
+module _ {X : Type 0} where
+  first-in : {x : X} {xs : List X} → x ∈ x ∷ xs
+  first-in = List·Memᴰ·head refl
+
+  second-in : {x y : X} {xs : List X} → x ∈ y ∷ x ∷ xs
+  second-in = List·Memᴰ·tail first-in
 
 -- ---- the list
 
@@ -79,6 +86,9 @@ add-next {fs} A l = cases (dec-in formula-discrete A (l .all))
     below : (B : Formula) → B ∈ l .all → (B ∈ fs) ⊎ (B ∈ subformulas A ++ [])
     below B m = ⊎-elim inl (λ k. inr (Memᴰ·append-left [] (parts-below A B k))) (l .needed B m)
 
+    own : (B : Formula) → B ∈ A ∷ [] → (B ∈ fs) ⊎ (B ∈ subformulas A ++ [])
+    own B k = inr (Memᴰ·append-left [] (Memᴰ·cast (List·Memᴰ·eq-of-singleton k) (own-subformula A)))
+
     cases : Dec (A ∈ l .all) → Longer fs (A ∷ [])
     cases (yes m) = record { all = l .all; numbering = l .numbering; kept = l .kept; there = λ B k. Memᴰ·cast (List·Memᴰ·eq-of-singleton k) m; needed = below }
     cases (no n) =
@@ -87,7 +97,7 @@ add-next {fs} A l = cases (dec-in formula-discrete A (l .all))
           numbering = in-turn-snoc Next [] (l .all) A (l .numbering) (l .there, n);
           kept = λ B m. Memᴰ·append-left (A ∷ []) (l .kept B m);
           there = λ B m. Memᴰ·append-right (l .all) m;
-          needed = λ B m. ⊎-elim (below B) (λ k. inr (Memᴰ·append-left [] (Memᴰ·cast (List·Memᴰ·eq-of-singleton k) (own-subformula A)))) (List·Memᴰ·append-cases (l .all) m);
+          needed = λ B m. ⊎-elim (below B) (own B) (List·Memᴰ·append-cases (l .all) m);
         }
 
 subformulas-append : (As Bs : List Formula) → subformulasIn (As ++ Bs) ≡ subformulasIn As ++ subformulasIn Bs
@@ -124,22 +134,31 @@ enter-all : (fs : List Formula) → Numbering fs → (As : List Formula) → Lon
 enter-all fs n [] = longer-nil fs n
 enter-all fs n (A ∷ As) = let l = enter fs n A in then l (enter-all (l .all) (l .numbering) As)
 
--- an atom of a subformula is one of the formula
+-- ---- an atom of a subformula is one of the formula
 
-either-atoms : {B : Formula} {As Cs : List Formula} {ps qs : List ℕ} → (B ∈ As → atomsOf B ⊆ ps) → (B ∈ Cs → atomsOf B ⊆ qs) → B ∈ As ++ Cs → atomsOf B ⊆ ps ++ qs
-either-atoms {As = As} {ps = ps} {qs = qs} h k m p i = ⊎-elim (λ j. Memᴰ·append-left qs (h j p i)) (λ j. Memᴰ·append-right ps (k j p i)) (List·Memᴰ·append-cases As m)
+same-atoms : {A B : Formula} → B ≡ A → atomsOf B ⊆ atomsOf A
+same-atoms e p m = subst (λ C. p ∈ atomsOf C) e m
+
+either-atoms : {B : Formula} {As Cs : List Formula} {ps qs : List ℕ} → (B ∈ As → atomsOf B ⊆ ps) → (B ∈ Cs → atomsOf B ⊆ qs)
+    → B ∈ As ++ Cs → atomsOf B ⊆ ps ++ qs
+either-atoms {As = As} {ps = ps} {qs = qs} h k m p i =
+    ⊎-elim (λ j. Memᴰ·append-left qs (h j p i)) (λ j. Memᴰ·append-right ps (k j p i)) (List·Memᴰ·append-cases As m)
 
 part-atoms : (A B : Formula) → B ∈ subformulas A → atomsOf B ⊆ atomsOf A
-part-atoms falsum B m p k = subst (λ C. p ∈ atomsOf C) (List·Memᴰ·eq-of-singleton m) k
-part-atoms (atom q) B m p k = subst (λ C. p ∈ atomsOf C) (List·Memᴰ·eq-of-singleton m) k
-part-atoms (neg A) B m p k = ⊎-elim (λ (e : B ≡ neg A). subst (λ C. p ∈ atomsOf C) e k) (λ i. part-atoms A B i p k) (List·Memᴰ·cases-cons m)
-part-atoms (conj A C) B m p k = ⊎-elim (λ (e : B ≡ conj A C). subst (λ D. p ∈ atomsOf D) e k) (λ i. either-atoms (part-atoms A B) (part-atoms C B) i p k) (List·Memᴰ·cases-cons m)
-part-atoms (disj A C) B m p k = ⊎-elim (λ (e : B ≡ disj A C). subst (λ D. p ∈ atomsOf D) e k) (λ i. either-atoms (part-atoms A B) (part-atoms C B) i p k) (List·Memᴰ·cases-cons m)
-part-atoms (imp A C) B m p k = ⊎-elim (λ (e : B ≡ imp A C). subst (λ D. p ∈ atomsOf D) e k) (λ i. either-atoms (part-atoms A B) (part-atoms C B) i p k) (List·Memᴰ·cases-cons m)
+part-atoms falsum B m = same-atoms (List·Memᴰ·eq-of-singleton m)
+part-atoms (atom q) B m = same-atoms (List·Memᴰ·eq-of-singleton m)
+part-atoms (neg A) B (List·Memᴰ·head e) = same-atoms e
+part-atoms (neg A) B (List·Memᴰ·tail m) = part-atoms A B m
+part-atoms (conj A C) B (List·Memᴰ·head e) = same-atoms e
+part-atoms (conj A C) B (List·Memᴰ·tail m) = either-atoms (part-atoms A B) (part-atoms C B) m
+part-atoms (disj A C) B (List·Memᴰ·head e) = same-atoms e
+part-atoms (disj A C) B (List·Memᴰ·tail m) = either-atoms (part-atoms A B) (part-atoms C B) m
+part-atoms (imp A C) B (List·Memᴰ·head e) = same-atoms e
+part-atoms (imp A C) B (List·Memᴰ·tail m) = either-atoms (part-atoms A B) (part-atoms C B) m
 
-occurs-below : (As : List Formula) (B : Formula) (p : ℕ) → B ∈ subformulasIn As → p ∈ atomsOf B → p ∈ atomsIn As
-occurs-below [] B p m k = absurd (List·Memᴰ·not-nil m)
-occurs-below (A ∷ As) B p m k = ⊎-elim (λ i. Memᴰ·append-left (atomsIn As) (part-atoms A B i p k)) (λ i. Memᴰ·append-right (atomsOf A) (occurs-below As B p i k)) (List·Memᴰ·append-cases (subformulas A) m)
+occurs-below : (As : List Formula) (B : Formula) → B ∈ subformulasIn As → atomsOf B ⊆ atomsIn As
+occurs-below [] B m = absurd (List·Memᴰ·not-nil m)
+occurs-below (A ∷ As) B m = either-atoms (part-atoms A B) (occurs-below As B) m
 
 -- ---- what a list has of a formula, it has of its parts
 
@@ -149,20 +168,28 @@ parts-there before (B ∷ Bs) n A m =
     ⊎-elim (λ (e : A ≡ B). λ C k. Memᴰ·append-left (B ∷ Bs) (n .0 .0 C (subst (λ D. C ∈ partsOf D) e k)))
     (λ i C k. subst (λ ds. C ∈ ds) (append-assoc before (B ∷ []) Bs) (parts-there (before ++ B ∷ []) Bs (n .1) A i C k)) (List·Memᴰ·cases-cons m)
 
-two : {A : Formula} {As Bs fs : List Formula} → A ∈ fs → As ⊆ fs → Bs ⊆ fs → A ∷ As ++ Bs ⊆ fs
-two {As = As} m a b B k = ⊎-elim (λ e. Memᴰ·cast e m) (λ i. ⊎-elim (a B) (b B) (List·Memᴰ·append-cases As i)) (List·Memᴰ·cases-cons k)
-
 module _ (fs : List Formula) (n : Numbering fs) where
-  closed : (A : Formula) → A ∈ fs → partsOf A ⊆ fs
-  closed = parts-there [] fs n
+  closed : {A B : Formula} → A ∈ fs → B ∈ partsOf A → B ∈ fs
+  closed {A} {B} m k = parts-there [] fs n A m B k
+
+  with-part : {A : Formula} {As : List Formula} → A ∈ fs → As ⊆ fs → A ∷ As ⊆ fs
+  with-part m a B (List·Memᴰ·head e) = Memᴰ·cast e m
+  with-part m a B (List·Memᴰ·tail k) = a B k
+
+  both : {As Bs : List Formula} → As ⊆ fs → Bs ⊆ fs → As ++ Bs ⊆ fs
+  both {As} a b B m = ⊎-elim (a B) (b B) (List·Memᴰ·append-cases As m)
 
   subformulas-there : (A : Formula) → A ∈ fs → subformulas A ⊆ fs
-  subformulas-there falsum m B k = Memᴰ·cast (List·Memᴰ·eq-of-singleton k) m
-  subformulas-there (atom p) m B k = Memᴰ·cast (List·Memᴰ·eq-of-singleton k) m
-  subformulas-there (neg A) m B k = ⊎-elim (λ e. Memᴰ·cast e m) (subformulas-there A (closed _ m A (List·Memᴰ·head refl)) B) (List·Memᴰ·cases-cons k)
-  subformulas-there (conj A C) m B k = two m (subformulas-there A (closed _ m A (List·Memᴰ·head refl))) (subformulas-there C (closed _ m C (List·Memᴰ·tail (List·Memᴰ·head refl)))) B k
-  subformulas-there (disj A C) m B k = two m (subformulas-there A (closed _ m A (List·Memᴰ·head refl))) (subformulas-there C (closed _ m C (List·Memᴰ·tail (List·Memᴰ·head refl)))) B k
-  subformulas-there (imp A C) m B k = two m (subformulas-there A (closed _ m A (List·Memᴰ·head refl))) (subformulas-there C (closed _ m C (List·Memᴰ·tail (List·Memᴰ·head refl)))) B k
+  subformulas-there falsum m = with-part m (λ B k. absurd (List·Memᴰ·not-nil k))
+  subformulas-there (atom p) m = with-part m (λ B k. absurd (List·Memᴰ·not-nil k))
+  subformulas-there (neg A) m = with-part m (subformulas-there A (closed m first-in))
+  subformulas-there (conj A B) m = with-part m (both (subformulas-there A (closed m first-in)) (subformulas-there B (closed m second-in)))
+  subformulas-there (disj A B) m = with-part m (both (subformulas-there A (closed m first-in)) (subformulas-there B (closed m second-in)))
+  subformulas-there (imp A B) m = with-part m (both (subformulas-there A (closed m first-in)) (subformulas-there B (closed m second-in)))
+
+  all-there : (As : List Formula) → As ⊆ fs → subformulasIn As ⊆ fs
+  all-there [] h = h
+  all-there (A ∷ As) h = both (subformulas-there A (h A first-in)) (all-there As (λ B m. h B (List·Memᴰ·tail m)))
 
 -- ---- the nodes of a list
 
@@ -171,10 +198,10 @@ formula-back : (number : Formula → ℕ) (ts : List Formula) (A : Formula) → 
     → formulaOf ts (nodeFrom number A) ≡ A
 formula-back number ts falsum h = refl
 formula-back number ts (atom p) h = refl
-formula-back number ts (neg A) h = ap neg (h A (List·Memᴰ·head refl))
-formula-back number ts (conj A B) h = ap₂ conj (h A (List·Memᴰ·head refl)) (h B (List·Memᴰ·tail (List·Memᴰ·head refl)))
-formula-back number ts (disj A B) h = ap₂ disj (h A (List·Memᴰ·head refl)) (h B (List·Memᴰ·tail (List·Memᴰ·head refl)))
-formula-back number ts (imp A B) h = ap₂ imp (h A (List·Memᴰ·head refl)) (h B (List·Memᴰ·tail (List·Memᴰ·head refl)))
+formula-back number ts (neg A) h = ap neg (h A first-in)
+formula-back number ts (conj A B) h = ap₂ conj (h A first-in) (h B second-in)
+formula-back number ts (disj A B) h = ap₂ disj (h A first-in) (h B second-in)
+formula-back number ts (imp A B) h = ap₂ imp (h A first-in) (h B second-in)
 
 module _ (whole : List Formula) where
   -- the node of a formula, with its parts' places in the whole list
@@ -191,7 +218,8 @@ module _ (whole : List Formula) where
   formulas-after : (before rest : List Formula) → whole ≡ before ++ rest → InTurn Next before rest → formulasAfter before (map nodeOf rest) ≡ before ++ rest
   formulas-after before [] e n = sym (append-nil before)
   formulas-after before (A ∷ As) e n =
-      ap (λ (B : Formula). formulasAfter (before ++ B ∷ []) (map nodeOf As)) (formula-back (position whole) before A (λ B m. place before (A ∷ As) e B (n .0 .0 B m) .1))
+      let own = formula-back (position whole) before A (λ B m. place before (A ∷ As) e B (n .0 .0 B m) .1) in
+      ap (λ (B : Formula). formulasAfter (before ++ B ∷ []) (map nodeOf As)) own
       ∙ formulas-after (before ++ A ∷ []) As (e ∙ sym (append-assoc before (A ∷ []) As)) (n .1)
       ∙ append-assoc before (A ∷ []) As
 
@@ -202,35 +230,37 @@ module _ (whole : List Formula) where
     formulas-listed = formulas-after [] whole refl n
 
     node-back : (A : Formula) → A ∈ whole → formulaOf whole (nodeOf A) ≡ A
-    node-back A m = formula-back (position whole) whole A (λ B k. place whole [] (sym (append-nil whole)) B (closed whole n A m B k) .1)
+    node-back A m = formula-back (position whole) whole A (λ B k. place whole [] (sym (append-nil whole)) B (closed whole n m k) .1)
 
     module _ (atoms : ℕ) (few : (p : ℕ) → atom p ∈ whole → p < atoms) where
-      refers-back : (before rest : List Formula) → whole ≡ before ++ rest → (A : Formula) → A ∈ whole → partsOf A ⊆ before
-          → refersAhead (record { atoms = atoms; nodes = map nodeOf before; rows = [] }) (nodeOf A) ≡ false
-      refers-back before rest e = by-form
-        where
-          earlier : (B : Formula) → B ∈ before → leb (length (map nodeOf before)) (position whole B) ≡ false
-          earlier B m = rw (length-map before nodeOf) (lt-leb (length before) (position whole B) (place before rest e B m .0))
+      abbrev before-nodes : List Formula → Body
+      before-nodes before = record { atoms = atoms; nodes = map nodeOf before; rows = [] }
 
-          by-form : (A : Formula) → A ∈ whole → partsOf A ⊆ before → refersAhead (record { atoms = atoms; nodes = map nodeOf before; rows = [] }) (nodeOf A) ≡ false
-          by-form falsum m h = refl
-          by-form (atom p) m h = lt-leb atoms p (few p m)
-          by-form (neg A) m h = rw (earlier A (h A (List·Memᴰ·head refl)))
-          by-form (conj A B) m h = rw (earlier A (h A (List·Memᴰ·head refl)), earlier B (h B (List·Memᴰ·tail (List·Memᴰ·head refl))))
-          by-form (disj A B) m h = rw (earlier A (h A (List·Memᴰ·head refl)), earlier B (h B (List·Memᴰ·tail (List·Memᴰ·head refl))))
-          by-form (imp A B) m h = rw (earlier A (h A (List·Memᴰ·head refl)), earlier B (h B (List·Memᴰ·tail (List·Memᴰ·head refl))))
+      module _ (before rest : List Formula) (e : whole ≡ before ++ rest) where
+        earlier : (B : Formula) → B ∈ before → leb (length (map nodeOf before)) (position whole B) ≡ false
+        earlier B m = rw (length-map before nodeOf) (lt-leb (length before) (position whole B) (place before rest e B m .0))
 
-      nodes-good-after : (before rest : List Formula) → whole ≡ before ++ rest → InTurn Next before rest → InTurn (GoodNode atoms) (map nodeOf before) (map nodeOf rest)
+        refers-back : (A : Formula) → A ∈ whole → partsOf A ⊆ before → refersAhead (before-nodes before) (nodeOf A) ≡ false
+        refers-back falsum m h = refl
+        refers-back (atom p) m h = lt-leb atoms p (few p m)
+        refers-back (neg A) m h = rw (earlier A (h A first-in))
+        refers-back (conj A B) m h = rw (earlier A (h A first-in), earlier B (h B second-in))
+        refers-back (disj A B) m h = rw (earlier A (h A first-in), earlier B (h B second-in))
+        refers-back (imp A B) m h = rw (earlier A (h A first-in), earlier B (h B second-in))
+
+      nodes-good-after : (before rest : List Formula) → whole ≡ before ++ rest → InTurn Next before rest
+          → InTurn (GoodNode atoms) (map nodeOf before) (map nodeOf rest)
       nodes-good-after before [] e t = tt
       nodes-good-after before (A ∷ As) e t =
           let more = nodes-good-after (before ++ A ∷ []) As (e ∙ sym (append-assoc before (A ∷ []) As)) (t .1) in
-          ((refers-back before (A ∷ As) e A here (t .0 .0), new), subst (λ ns. InTurn (GoodNode atoms) ns (map nodeOf As)) (map-append nodeOf before (A ∷ [])) more)
+          let rest = subst (λ ns. InTurn (GoodNode atoms) ns (map nodeOf As)) (map-append nodeOf before (A ∷ [])) more in
+          ((refers-back before (A ∷ As) e A here (t .0 .0), new), rest)
         where
           among : {B : Formula} → B ∈ before ++ A ∷ As → B ∈ whole
           among {B} m = subst (λ ts. B ∈ ts) (sym e) m
 
           here : A ∈ whole
-          here = among (Memᴰ·append-right before (List·Memᴰ·head refl))
+          here = among (Memᴰ·append-right before first-in)
 
           -- equal nodes would stand for equal formulas
           new : nodeOf A ∈ map nodeOf before → ⊥
@@ -254,7 +284,7 @@ nodes-for atoms As below =
     record {
       nodes = nodesOf (l .all);
       good = nodes-good (l .all) (l .numbering) atoms few;
-      needed = subst (λ fs. fs ≈ subformulasIn As) (sym listed) (λ B m. only B (l .needed B m), all-there As (l .there));
+      needed = subst (λ fs. fs ≈ subformulasIn As) (sym listed) (λ B m. only B (l .needed B m), all-there (l .all) (l .numbering) As (l .there));
       number = number;
     }
   where
@@ -267,14 +297,11 @@ nodes-for atoms As below =
     only : (B : Formula) → (B ∈ []) ⊎ (B ∈ subformulasIn As) → B ∈ subformulasIn As
     only B m = ⊎-elim (λ k. absurd (List·Memᴰ·not-nil k)) (λ k. k) m
 
-    all-there : (Bs : List Formula) → Bs ⊆ l .all → subformulasIn Bs ⊆ l .all
-    all-there [] h B m = absurd (List·Memᴰ·not-nil m)
-    all-there (C ∷ Cs) h B m = ⊎-elim (subformulas-there (l .all) (l .numbering) C (h C (List·Memᴰ·head refl)) B) (all-there Cs (λ D k. h D (List·Memᴰ·tail k)) B) (List·Memᴰ·append-cases (subformulas C) m)
-
     few : (p : ℕ) → atom p ∈ l .all → p < atoms
-    few p m = below p (occurs-below As (atom p) p (only (atom p) (l .needed (atom p) m)) (List·Memᴰ·head refl))
+    few p m = below p (occurs-below As (atom p) (only (atom p) (l .needed (atom p) m)) p first-in)
 
     number : (A : Formula) → A ∈ As → (i : ℕ) × (i < length (nodesOf (l .all))) × (decodedAt (nodesOf (l .all)) i ≡ A)
     number A m =
         let at = place (l .all) (l .all) [] (sym (append-nil (l .all))) A (l .there A m) in
-        (position (l .all) A, rw (length-map (l .all) (nodeOf (l .all))) (at .0), ap (λ (fs : List Formula). formulaAt fs (position (l .all) A)) listed ∙ at .1)
+        let i = position (l .all) A in
+        (i, rw (length-map (l .all) (nodeOf (l .all))) (at .0), ap (λ (fs : List Formula). formulaAt fs i) listed ∙ at .1)

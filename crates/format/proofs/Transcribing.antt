@@ -1,39 +1,41 @@
 -- From the calculus to the file: every derivation has formulas and rows for it, which are good if they are within the most
 -- counts; and so a text with these rows, which is accepted.
 use Prim.Native.Nat.{ℕ, zero, suc, _+_, _≤_, _<_}
-use mathlib.Core.Path.{_≡_, refl, sym, ap, ap₂, subst, _∙_}
-use mathlib.Core.Bool.{Bool, true, false, not, _&&_, _||_}
-use mathlib.Core.List.{List, [], _∷_, _++_, map, append-nil, append-assoc, List·Memᴰ·head, List·Memᴰ·tail, List·Memᴰ·not-nil, List·Memᴰ·cases-cons}
-use mathlib.Core.List.{List·Memᴰ·append-cases, List·Memᴰ·eq-of-singleton, Memᴰ·append-left, Memᴰ·append-right, Memᴰ·cast, Memᴰ·map, Memᴰ·of-map}
-use mathlib.Core.Option.{Option, none, some, IsSome}
+use mathlib.Core.Path.{_≡_, refl, sym, ap, subst}
+use mathlib.Core.Bool.{true, false, _||_}
+use mathlib.Core.List.{List, [], _∷_, _++_, map, List·Memᴰ·head, List·Memᴰ·tail, List·Memᴰ·not-nil, List·Memᴰ·cases-cons}
+use mathlib.Core.List.{List·Memᴰ·eq-of-singleton, Memᴰ·append-left, Memᴰ·append-right, Memᴰ·cast, Memᴰ·map, Memᴰ·of-map}
+use mathlib.Core.Option.{Option, none, some}
 use mathlib.Core.Logic.{_↔_, _⊎_, inl, inr, ⊎-elim}
 use native.Mathlib.Decide.{decLt}
 use native.Mathlib.Omega.{arith}
-use lib.Dec.{T, leb, ltb}
+use lib.Dec.{leb}
 use lib.ListN.{length, getD, length-append, List·getD-append}
 use lib.Seq.{getD-at}
 use borrow.Author.Tests.{lt-leb, le-ltb, lt-ltb, leb-true}
 use Rattle.equilibrium.specs.Formula.{Formula, atomsIn}
-use Rattle.equilibrium.specs.Meaning.{_∈_, _⊆_, _≈_}
-use Rattle.equilibrium.proofs.Sets.{≈-trans, dec-in}
-use Rattle.elk.specs.Sequent.{Kind, elk, refutation, Sequent, Same, AllSame}
+use Rattle.equilibrium.specs.Meaning.{_∈_, _⊆_, _≈_, Entails}
+use Rattle.equilibrium.proofs.Sets.{dec-in}
+use Rattle.elk.specs.Sequent.{elk, Sequent, _⇒_, Same, AllSame}
 use Rattle.elk.specs.Rules.{Rule, entry, kindOf}
 use Rattle.elk.specs.Instance.{Instance}
 use Rattle.elk.specs.Derivation.{Derivation, start, row, EndsIn}
-use Rattle.elk.proofs.Steps.{same-sym, same-trans}
+use Rattle.elk.proofs.Steps.{same-trans}
+use Rattle.elk.proofs.Completeness.{complete}
 use Rattle.elk.proofs.Faithful.{instance-shaped}
 use Rattle.elk.proofs.Equality.{formula-discrete}
 use Rattle.format.specs.Text.{Bytes, _<$>_, any, strictlyRising}
 use Rattle.format.specs.File.{Node, Row, Body, decodedAt, decoded, sequentOf}
-use Rattle.format.specs.Tables.{joinAll, leftPool, rightPool, mostRows, mostEntries, mostOnSide, mostBytes}
-use Rattle.format.specs.Tests.{first, notEarlier, unknownFormula, listed, badSide, passed, lastIs}
+use Rattle.format.specs.Tables.{joinAll, leftPool, rightPool, mostAtoms, mostRows, mostEntries, mostOnSide, mostBytes}
+use Rattle.format.specs.Tests.{first, notEarlier, listed, badSide, passed, lastIs}
 use Rattle.format.specs.Tests.{premisesOf, referenceTests, sideTests, bodyTests}
 use Rattle.format.specs.Document.{Document, written, bodyOf, InTurn, GoodName, GoodRow, GoodDocument}
-use Rattle.format.specs.Transcript.{principals, formulasIn, IsStep, AreSteps, Within, Transcript, TextFor}
+use Rattle.format.specs.Transcript.{plainNames, countTo, principals, formulasIn, IsStep, AreSteps, Within, Transcript, TextFor}
 use Rattle.format.proofs.Booleans.{list-same}
 use Rattle.format.proofs.WrittenDocuments.{written-accepted, written-contents}
 use Rattle.format.proofs.Passing.{Passes, first-none, any-none}
 use Rattle.format.proofs.InstancePasses.{instance-same, rule-passes}
+use Rattle.format.proofs.PlainNames.{plain-length, plain-good, below-count}
 use Rattle.format.proofs.Numbering.{in-turn-snoc, NodesFor, nodes-for}
 
 none-later : (held : ℕ) (is : List ℕ) → ((i : ℕ) → i ∈ is → i < held) → any (notEarlier held) is ≡ false
@@ -80,7 +82,8 @@ module _ {P : ℕ → Type 0} (d : (i : ℕ) → Dec (P i)) where
         λ m. ⊎-elim (λ (e : i ≡ k). (omega arith, omega arith, subst P (sym e) h)) (λ j. up (rest .0 j)) (List·Memᴰ·cases-cons m),
         λ g. ⊎-elim (λ e. List·Memᴰ·head e) (λ l. List·Memᴰ·tail (rest .1 (down g l))) (first-or-later k i (g .0)),
       )
-      cases (no h) rest = (λ m. up (rest .0 m), λ g. ⊎-elim (λ (e : i ≡ k). absurd (h (subst P e (g .2)))) (λ l. rest .1 (down g l)) (first-or-later k i (g .0)))
+      cases (no h) rest =
+          (λ m. up (rest .0 m), λ g. ⊎-elim (λ (e : i ≡ k). absurd (h (subst P e (g .2)))) (λ l. rest .1 (down g l)) (first-or-later k i (g .0)))
 
   those-rise : (n k : ℕ) → strictlyRising (those-from n k) ≡ true
   unfolding those-from strictlyRising
@@ -178,7 +181,9 @@ module _ (atoms : ℕ) (nodes : List Node) (As : List Formula) (number : (A : Fo
 
   in-side : (L : List Formula) (i : ℕ) → (i ∈ side L) ↔ ((i < length nodes) × (decodedAt nodes i ∈ L))
   unfolding side
-  in-side L i = let h = in-those-from (λ j. dec-in formula-discrete (decodedAt nodes j) L) (length nodes) 0 i in (λ m. (omega (arith, h .0 m .1), h .0 m .2), λ k. h .1 (omega arith, omega (arith, k .0), k .1))
+  in-side L i =
+      let h = in-those-from (λ j. dec-in formula-discrete (decodedAt nodes j) L) (length nodes) 0 i in
+      (λ m. (omega (arith, h .0 m .1), h .0 m .2), λ k. h .1 (omega arith, omega (arith, k .0), k .1))
 
   -- they stand for the same set
   side-same : (L : List Formula) → L ⊆ As → decoded nodes (side L) ≈ L
@@ -198,7 +203,8 @@ module _ (atoms : ℕ) (nodes : List Node) (As : List Formula) (number : (A : Fo
   side-good L l = rw (those-rise (λ i. dec-in formula-discrete (decodedAt nodes i) L) (length nodes) 0, le-ltb mostOnSide (length (side L)) l)
 
   -- the number of a principal formula
-  principal-number : (F : Option Formula) → principals F ⊆ As → (o : Option ℕ) × ((decodedAt nodes <$> o) ≡ F) × (any (notEarlier (length nodes)) (listed o) ≡ false)
+  principal-number : (F : Option Formula) → principals F ⊆ As
+      → (o : Option ℕ) × ((decodedAt nodes <$> o) ≡ F) × (any (notEarlier (length nodes)) (listed o) ≡ false)
   principal-number none h = (none, refl, refl)
   principal-number (some A) h =
       let i = number A (h A (List·Memᴰ·head refl)) in
@@ -256,7 +262,8 @@ module _ (atoms : ℕ) (nodes : List Node) (As : List Formula) (number : (A : Fo
 
   rows-for : {ss : List Sequent} (d : Derivation ss) → formulasIn d ⊆ As → RowsFor d
   rows-for start h = record { rows = []; steps = refl; found = λ s m. absurd (List·Memᴰ·not-nil m); good = λ w. tt }
-  rows-for (row {rows = ss} d r F premises {s = s} inside i) h = add (rows-for d (λ A m. h A (past (Memᴰ·append-right (s .left) (Memᴰ·append-right (s .right) m)))))
+  rows-for (row {rows = ss} d r F premises {s = s} inside i) h =
+      add (rows-for d (λ A m. h A (past (Memᴰ·append-right (s .left) (Memᴰ·append-right (s .right) m)))))
     where
       past : {A : Formula} {Bs : List Formula} → A ∈ Bs → A ∈ principals F ++ Bs
       past m = Memᴰ·append-right (principals F) m
@@ -276,7 +283,7 @@ module _ (atoms : ℕ) (nodes : List Node) (As : List Formula) (number : (A : Fo
             rows = before ++ next ∷ [];
             steps = (before, next, refl, rest .steps, step);
             found = found-more nodes before next ss s (step .sequent) (rest .found);
-            good = λ w. in-turn-snoc (GoodRow atoms nodes) [] before next (rest .good (within-before atoms nodes before next w)) (passing before r F premises s i principal left right above w);
+            good = λ w. in-turn-snoc (GoodRow atoms nodes) [] before next (rest .good (within-before atoms nodes before next w)) (passes w);
           }
         where
           before : List Row
@@ -287,6 +294,9 @@ module _ (atoms : ℕ) (nodes : List Node) (As : List Formula) (number : (A : Fo
 
           next : Row
           next = q before r F premises s i principal left right above
+
+          passes : Within (body atoms nodes (before ++ next ∷ [])) → first (bodyTests (body atoms nodes before) next) ≡ none
+          passes = passing before r F premises s i principal left right above
 
           step : IsStep (body atoms nodes before) next r F premises s
           step = is-step before r F premises s i principal left right above
@@ -310,35 +320,41 @@ transcribed atoms d below =
     rs : RowsFor atoms (ns .nodes) (formulasIn d) (ns .number) d
     rs = rows-for atoms (ns .nodes) (formulasIn d) (ns .number) d (λ A m. m)
 
--- the last row of a transcript stands for the last row of the derivation
 last-step : (atoms : ℕ) (nodes : List Node) (rows : List Row) {s : Sequent} {ss : List Sequent} (d : Derivation (s ∷ ss)) → AreSteps atoms nodes rows d
     → (before : List Row) × (q : Row) × (rows ≡ before ++ q ∷ []) × Same (sequentOf nodes q) s
 last-step atoms nodes rows (row d r F premises inside i) steps = (steps .0, steps .1, steps .2, steps .4 .sequent)
+
+-- the last row of a transcript of a derivation of L => R is L => R
+pub transcript-ends : {atoms : ℕ} {L R : List Formula} (e : EndsIn L R) (t : Transcript atoms (e .derivation))
+    → (before : List Row) × (q : Row) × (t .rows ≡ before ++ q ∷ []) × Same (sequentOf (t .nodes) q) (L ⇒ R)
+transcript-ends {atoms} e t =
+    let last = last-step atoms (t .nodes) (t .rows) (e .derivation) (t .steps) in
+    (last .0, last .1, last .2, same-trans (last .3) (e .ends))
 
 last-is : (before : List Row) (q : Row) → kindOf (entry (q .rule)) ≡ elk → lastIs (before ++ q ∷ []) (q .left) (q .right) ≡ true
 last-is [] q e = rw (e, list-same (q .left), list-same (q .right))
 last-is (r ∷ []) q e = last-is [] q e
 last-is (r ∷ p ∷ ps) q e = last-is (p ∷ ps) q e
 
--- every derivation of L => R over named atoms has a text with its rows and the claim L => R, accepted if within the limits
-pub text-for : (names : List Bytes) → InTurn GoodName [] names → {L R : List Formula} (e : EndsIn L R)
+-- where the names are good as far as there may be so many
+named-text : (names : List Bytes) → (length names ≤ mostAtoms → InTurn GoodName [] names) → {L R : List Formula} (e : EndsIn L R)
     → ((p : ℕ) → p ∈ atomsIn (formulasIn (e .derivation)) → p < length names) → TextFor names e
-text-for names good {L} {R} e below =
+named-text names good {L} {R} e below =
     record {
       document = document;
       names-given = refl;
       steps = t .steps;
       needed = t .needed;
-      left = ≈-trans (last .3 .left) (e .ends .left);
-      right = ≈-trans (last .3 .right) (e .ends .right);
+      left = last .3 .left;
+      right = last .3 .right;
       accepted-if = λ w short l long. (written-accepted document (document-good w short) l long, written-contents document (document-good w short) l long);
     }
   where
     t : Transcript (length names) (e .derivation)
     t = transcribed (length names) (e .derivation) below
 
-    last : (before : List Row) × (q : Row) × (t .rows ≡ before ++ q ∷ []) × Same (sequentOf (t .nodes) q) (e .last)
-    last = last-step (length names) (t .nodes) (t .rows) (e .derivation) (t .steps)
+    last : (before : List Row) × (q : Row) × (t .rows ≡ before ++ q ∷ []) × Same (sequentOf (t .nodes) q) (L ⇒ R)
+    last = transcript-ends e t
 
     document : Document
     document = record { names = names; nodes = t .nodes; rows = t .rows; left = last .1 .left; right = last .1 .right }
@@ -346,8 +362,23 @@ text-for names good {L} {R} e below =
     document-good : Within (bodyOf document) → length (written document) ≤ mostBytes → GoodDocument document
     document-good w short =
         record {
-          names = good;
+          names = good (w .atoms);
           body = t .good w;
-          claim = rw (last .2) (last-is (last .0) (last .1) (last .3 .kind ∙ e .ends .kind));
+          claim = rw (last .2) (last-is (last .0) (last .1) (last .3 .kind));
           short = short;
         }
+
+-- every derivation of L => R has a text with its rows and the claim L => R, where its atoms have names
+pub text-for : (names : List Bytes) → InTurn GoodName [] names → {L R : List Formula} (e : EndsIn L R)
+    → ((p : ℕ) → p ∈ atomsIn (formulasIn (e .derivation)) → p < length names) → TextFor names e
+text-for names good = named-text names (λ l. good)
+
+-- whatever is entailed has a derivation with a text: what may be said can be written, as far as the limits allow
+pub entailed-text : (L R : List Formula) → Entails L R → (e : EndsIn L R) × TextFor (plainNames (countTo (atomsIn (formulasIn (e .derivation))))) e
+entailed-text L R h = (e, named-text (plainNames n) (λ l. plain-good n (rw (plain-length n) at l)) e (λ p m. rw (plain-length n) (below-count _ p m)))
+  where
+    e : EndsIn L R
+    e = complete L R h
+
+    n : ℕ
+    n = countTo (atomsIn (formulasIn (e .derivation)))

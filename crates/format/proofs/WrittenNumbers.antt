@@ -58,9 +58,9 @@ each-digit (suc k) n =
     (λ e. each-append IsDigit (digits k (n / 10)) _ (each-digit k (n / 10)) (is-digit (n % 10) (omega arith), tt))
 
 -- so many at the least, and so many at the most
-record Between (low high : ℕ) (bs : Bytes) : Type 0 where
-  least : low ≤ length bs
-  most : length bs ≤ high
+pub record Between (low high : ℕ) (bs : Bytes) : Type 0 where
+  pub least : low ≤ length bs
+  pub most : length bs ≤ high
 
 count-digits : (k n : ℕ) → Between (min 1 k) k (digits k n)
 unfolding digits
@@ -78,11 +78,11 @@ pub decimal-digits : (n : ℕ) → Each (λ b. isDigit b ≡ true) (decimal n)
 unfolding decimal
 decimal-digits n = each-digit 5 n
 
-all-true : (test : ℕ → Bool) (bs : Bytes) → Each (λ b. test b ≡ true) bs → all test bs ≡ true
+pub all-true : (test : ℕ → Bool) (bs : Bytes) → Each (λ b. test b ≡ true) bs → all test bs ≡ true
 all-true test [] h = refl
 all-true test (b ∷ bs) h = rw (h .0) (all-true test bs (h .1))
 
-decimal-length : (n : ℕ) → Between 1 5 (decimal n)
+pub decimal-length : (n : ℕ) → Between 1 5 (decimal n)
 unfolding decimal
 decimal-length n = count-digits 5 n
 

@@ -1,6 +1,6 @@
 -- The transcript of a derivation: a body whose rows are those of a derivation of `elk`, one for one, with numbers for its
 -- formulas and premises; and its text. Transcribing proves that every derivation has one, good if within the most counts.
-use Prim.Native.Nat.{ℕ, _≤_}
+use Prim.Native.Nat.{ℕ, zero, suc, max, _≤_}
 use mathlib.Core.Path.{_≡_}
 use mathlib.Core.Bool.{false}
 use mathlib.Core.List.{List, [], _∷_, _++_}
@@ -11,11 +11,12 @@ use Rattle.equilibrium.specs.Meaning.{_∈_, _≈_}
 use Rattle.elk.specs.Sequent.{Sequent, Same, AllSame}
 use Rattle.elk.specs.Rules.{Rule}
 use Rattle.elk.specs.Derivation.{Derivation, start, row, EndsIn}
-use Rattle.format.specs.Text.{Bytes, _<$>_}
+use Rattle.format.specs.Text.{Bytes, bytes, _<$>_}
 use Rattle.format.specs.File.{Node, Row, Body, formulas, decodedAt, decoded, sequentOf}
 use Rattle.format.specs.Tables.{Lent, tooShort, leftPool, rightPool, encode, mostAtoms, mostFormulas, mostRows, mostEntries, mostOnSide, mostBytes}
 use Rattle.format.specs.Tests.{premisesOf}
 use Rattle.format.specs.Judged.{accepted, judged, contents}
+use Rattle.format.specs.Written.{decimal}
 use Rattle.format.specs.Document.{Document, linesIn, written, bodyOf, fileOf, GoodBody}
 
 -- a formula and all its parts
@@ -74,6 +75,16 @@ pub record Transcript (atoms : ℕ) {ss : List Sequent} (d : Derivation ss) : Ty
   -- nothing is numbered that the derivation does not need
   pub needed : formulas nodes ≈ subformulasIn (formulasIn d)
   pub good : Within (record { atoms = atoms; nodes = nodes; rows = rows }) → GoodBody (record { atoms = atoms; nodes = nodes; rows = rows })
+
+-- names for so many atoms: a0, a1, a2, ..
+abbrev pub plainNames : ℕ → List Bytes
+plainNames zero = []
+plainNames (suc n) = plainNames n ++ (bytes "a" ++ decimal n) ∷ []
+
+-- one more than the greatest, or 0 if there is none
+abbrev pub countTo : List ℕ → ℕ
+countTo [] = 0
+countTo (p ∷ ps) = max (suc p) (countTo ps)
 
 -- a whole file with these names whose rows are a derivation of L => R and whose claim is L => R
 pub record TextFor (names : List Bytes) {L R : List Formula} (e : EndsIn L R) : Type 0 where
