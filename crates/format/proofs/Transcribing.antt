@@ -4,7 +4,7 @@ use Prim.Native.Nat.{ℕ, zero, suc, _+_, _≤_, _<_}
 use mathlib.Core.Path.{_≡_, refl, sym, ap, subst}
 use mathlib.Core.Bool.{true, false, _||_}
 use mathlib.Core.List.{List, [], _∷_, _++_, map, List·Memᴰ·head, List·Memᴰ·tail, List·Memᴰ·not-nil, List·Memᴰ·cases-cons}
-use mathlib.Core.List.{List·Memᴰ·eq-of-singleton, Memᴰ·append-left, Memᴰ·append-right, Memᴰ·cast, Memᴰ·map, Memᴰ·of-map}
+use mathlib.Core.List.{List·Memᴰ·append-cases, List·Memᴰ·eq-of-singleton, Memᴰ·append-left, Memᴰ·append-right, Memᴰ·cast, Memᴰ·map, Memᴰ·of-map}
 use mathlib.Core.Option.{Option, none, some}
 use mathlib.Core.Logic.{_↔_, _⊎_, inl, inr, ⊎-elim}
 use native.Mathlib.Decide.{decLt}
@@ -30,7 +30,7 @@ use Rattle.format.specs.Tables.{joinAll, leftPool, rightPool, mostAtoms,
 use Rattle.format.specs.Tests.{first, notEarlier, listed, badSide, passed, lastIs}
 use Rattle.format.specs.Tests.{premisesOf, referenceTests, sideTests, bodyTests}
 use Rattle.format.specs.Document.{Document, written, bodyOf, InTurn, GoodName, GoodRow, GoodDocument}
-use Rattle.format.specs.Transcript.{plainNames, countTo, principals, formulasIn, IsStep, AreSteps, Within, Transcript, TextFor}
+use Rattle.format.specs.Transcript.{plainNames, countTo, principals, formulasIn, IsStep, AreSteps, Within, SidesRise, Transcript, documentOf, TextFor}
 use Rattle.format.proofs.Booleans.{list-same}
 use Rattle.format.proofs.WrittenDocuments.{written-accepted, written-contents}
 use Rattle.format.proofs.Passing.{Passes, first-none, any-none}
@@ -198,9 +198,12 @@ module _ (atoms : ℕ) (nodes : List Node) (As : List Formula) (number : (A : Fo
   side-known : (L : List Formula) → any (notEarlier (length nodes)) (side L) ≡ false
   side-known L = none-later (length nodes) (side L) (λ i m. in-side L i .0 m .0)
 
-  side-good : (L : List Formula) → length (side L) ≤ mostOnSide → badSide (side L) ≡ false
+  side-rises : (L : List Formula) → strictlyRising (side L) ≡ true
   unfolding side
-  side-good L l = rw (those-rise (λ i. dec-in formula-discrete (decodedAt nodes i) L) (length nodes) 0, le-ltb mostOnSide (length (side L)) l)
+  side-rises L = those-rise (λ i. dec-in formula-discrete (decodedAt nodes i) L) (length nodes) 0
+
+  side-good : (L : List Formula) → length (side L) ≤ mostOnSide → badSide (side L) ≡ false
+  side-good L l = rw (side-rises L, le-ltb mostOnSide (length (side L)) l)
 
   -- the number of a principal formula
   principal-number : (F : Option Formula) → principals F ⊆ As
@@ -239,6 +242,10 @@ module _ (atoms : ℕ) (nodes : List Node) (As : List Formula) (number : (A : Fo
         subst (λ (G : Option Formula). Instance r G (premisesOf (body atoms nodes before) q) (sequentOf nodes q)) (sym (step .principal))
         (instance-same (entry r) F premises (premisesOf (body atoms nodes before) q) (step .premises-same) (step .sequent) i)
 
+    rises : SidesRise q
+    unfolding q
+    rises = (side-rises (s .left), side-rises (s .right))
+
     references : Passes (referenceTests (body atoms nodes before) q)
     unfolding q
     references = (rw (named .2, none-later (length before) (above .numbers) (above .earlier), side-known (s .left), side-known (s .right)), tt)
@@ -258,10 +265,12 @@ module _ (atoms : ℕ) (nodes : List Node) (As : List Formula) (number : (A : Fo
     rows : List Row
     steps : AreSteps atoms nodes rows d
     found : (s : Sequent) → s ∈ ss → Found nodes rows s
+    rising : (r : Row) → r ∈ rows → SidesRise r
     good : Within (body atoms nodes rows) → InTurn (GoodRow atoms nodes) [] rows
 
   rows-for : {ss : List Sequent} (d : Derivation ss) → formulasIn d ⊆ As → RowsFor d
-  rows-for start h = record { rows = []; steps = refl; found = λ s m. absurd (List·Memᴰ·not-nil m); good = λ w. tt }
+  rows-for start h =
+      record { rows = []; steps = refl; found = λ s m. absurd (List·Memᴰ·not-nil m); rising = λ r m. absurd (List·Memᴰ·not-nil m); good = λ w. tt }
   rows-for (row {rows = ss} d r F premises {s = s} inside i) h =
       add (rows-for d (λ A m. h A (past (Memᴰ·append-right (s .left) (Memᴰ·append-right (s .right) m)))))
     where
@@ -283,6 +292,7 @@ module _ (atoms : ℕ) (nodes : List Node) (As : List Formula) (number : (A : Fo
             rows = before ++ next ∷ [];
             steps = (before, next, refl, rest .steps, step);
             found = found-more nodes before next ss s (step .sequent) (rest .found);
+            rising = λ p m. ⊎-elim (rest .rising p) (λ k. subst SidesRise (sym (List·Memᴰ·eq-of-singleton k)) next-rises) (List·Memᴰ·append-cases before m);
             good = λ w. in-turn-snoc (GoodRow atoms nodes) [] before next (rest .good (within-before atoms nodes before next w)) (passes w);
           }
         where
@@ -298,6 +308,9 @@ module _ (atoms : ℕ) (nodes : List Node) (As : List Formula) (number : (A : Fo
           passes : Within (body atoms nodes (before ++ next ∷ [])) → first (bodyTests (body atoms nodes before) next) ≡ none
           passes = passing before r F premises s i principal left right above
 
+          next-rises : SidesRise next
+          next-rises = rises before r F premises s i principal left right above
+
           step : IsStep (body atoms nodes before) next r F premises s
           step = is-step before r F premises s i principal left right above
 
@@ -311,6 +324,8 @@ transcribed atoms d below =
       rows = rs .rows;
       steps = rs .steps;
       needed = ns .needed;
+      once = ns .good;
+      rising = rs .rising;
       good = λ w. record { few-atoms = w .atoms; few-nodes = w .nodes; nodes = ns .good; rows = rs .good w };
     }
   where
@@ -331,22 +346,24 @@ transcript-ends {atoms} e t =
     let last = last-step atoms (t .nodes) (t .rows) (e .derivation) (t .steps) in
     (last .0, last .1, last .2, same-trans (last .3) (e .ends))
 
-last-is : (before : List Row) (q : Row) → kindOf (entry (q .rule)) ≡ elk → lastIs (before ++ q ∷ []) (q .left) (q .right) ≡ true
-last-is [] q e = rw (e, list-same (q .left), list-same (q .right))
-last-is (r ∷ []) q e = last-is [] q e
-last-is (r ∷ p ∷ ps) q e = last-is (p ∷ ps) q e
+last-is : (rows before : List Row) (q : Row) → rows ≡ before ++ q ∷ [] → kindOf (entry (q .rule)) ≡ elk → lastIs rows (q .left) (q .right) ≡ true
+last-is rows before q split e = rw split (at-end before)
+  where
+    at-end : (before : List Row) → lastIs (before ++ q ∷ []) (q .left) (q .right) ≡ true
+    at-end [] = rw (e, list-same (q .left), list-same (q .right))
+    at-end (r ∷ []) = at-end []
+    at-end (r ∷ p ∷ ps) = at-end (p ∷ ps)
 
 -- where the names are good as far as there may be so many
 named-text : (names : List Bytes) → (length names ≤ mostAtoms → InTurn GoodName [] names) → {L R : List Formula} (e : EndsIn L R)
     → ((p : ℕ) → p ∈ atomsIn (formulasIn (e .derivation)) → p < length names) → TextFor names e
 named-text names good {L} {R} e below =
     record {
-      document = document;
-      names-given = refl;
-      steps = t .steps;
-      needed = t .needed;
-      left = last .3 .left;
-      right = last .3 .right;
+      transcript = t;
+      left = last .1 .left;
+      right = last .1 .right;
+      claims-left = last .3 .left;
+      claims-right = last .3 .right;
       accepted-if = λ w short l long. (written-accepted document (document-good w short) l long, written-contents document (document-good w short) l long);
     }
   where
@@ -357,14 +374,14 @@ named-text names good {L} {R} e below =
     last = transcript-ends e t
 
     document : Document
-    document = record { names = names; nodes = t .nodes; rows = t .rows; left = last .1 .left; right = last .1 .right }
+    document = documentOf names t (last .1 .left) (last .1 .right)
 
     document-good : Within (bodyOf document) → length (written document) ≤ mostBytes → GoodDocument document
     document-good w short =
         record {
           names = good (w .atoms);
           body = t .good w;
-          claim = rw (last .2) (last-is (last .0) (last .1) (last .3 .kind));
+          claim = last-is (t .rows) (last .0) (last .1) (last .2) (last .3 .kind);
           short = short;
         }
 

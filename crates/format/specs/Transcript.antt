@@ -2,7 +2,7 @@
 -- formulas and premises; and its text. Transcribing proves that every derivation has one, good if within the most counts.
 use Prim.Native.Nat.{ℕ, zero, suc, max, _≤_}
 use mathlib.Core.Path.{_≡_}
-use mathlib.Core.Bool.{false}
+use mathlib.Core.Bool.{true, false}
 use mathlib.Core.List.{List, [], _∷_, _++_}
 use mathlib.Core.Option.{Option, none, some}
 use lib.ListN.{length}
@@ -11,13 +11,13 @@ use Rattle.equilibrium.specs.Meaning.{_∈_, _≈_}
 use Rattle.elk.specs.Sequent.{Sequent, Same, AllSame}
 use Rattle.elk.specs.Rules.{Rule}
 use Rattle.elk.specs.Derivation.{Derivation, start, row, EndsIn}
-use Rattle.format.specs.Text.{Bytes, bytes, _<$>_}
+use Rattle.format.specs.Text.{Bytes, bytes, strictlyRising, _<$>_}
 use Rattle.format.specs.File.{Node, Row, Body, formulas, decodedAt, decoded, sequentOf}
 use Rattle.format.specs.Tables.{Lent, tooShort, leftPool, rightPool, encode, mostAtoms, mostFormulas, mostRows, mostEntries, mostOnSide, mostBytes}
 use Rattle.format.specs.Tests.{premisesOf}
 use Rattle.format.specs.Judged.{accepted, judged, contents}
 use Rattle.format.specs.Written.{decimal}
-use Rattle.format.specs.Document.{Document, linesIn, written, bodyOf, fileOf, GoodBody}
+use Rattle.format.specs.Document.{Document, linesIn, written, bodyOf, fileOf, InTurn, GoodNode, GoodBody}
 
 -- a formula and all its parts
 abbrev pub subformulas : Formula → List Formula
@@ -67,14 +67,36 @@ pub record Within (b : Body) : Type 0 where
   pub left : (r : Row) → r ∈ b .rows → length (r .left) ≤ mostOnSide
   pub right : (r : Row) → r ∈ b .rows → length (r .right) ≤ mostOnSide
 
--- formulas and rows for a derivation, over so many atoms
+-- the sides are written as 01 asks: in strictly rising order, so each formula once
+abbrev pub SidesRise : Row → Type 0
+SidesRise r = (strictlyRising (r .left) ≡ true) × (strictlyRising (r .right) ≡ true)
+
+-- Formulas and rows for a derivation over so many atoms, as few as can be: one row for each step, each formula that it
+-- needs once, and each formula of a side once.
 pub record Transcript (atoms : ℕ) {ss : List Sequent} (d : Derivation ss) : Type 0 where
   pub nodes : List Node
   pub rows : List Row
   pub steps : AreSteps atoms nodes rows d
-  -- nothing is numbered that the derivation does not need
   pub needed : formulas nodes ≈ subformulasIn (formulasIn d)
+  pub once : InTurn (GoodNode atoms) [] nodes
+  pub rising : (r : Row) → r ∈ rows → SidesRise r
   pub good : Within (record { atoms = atoms; nodes = nodes; rows = rows }) → GoodBody (record { atoms = atoms; nodes = nodes; rows = rows })
+
+-- the transcript as a whole file, with names and a claim
+abbrev pub documentOf : List Bytes → {atoms : ℕ} {ss : List Sequent} {d : Derivation ss} → Transcript atoms d → List ℕ → List ℕ → Document
+documentOf names t left right = record { names = names; nodes = t .nodes; rows = t .rows; left = left; right = right }
+
+-- a text whose rows are a derivation of L => R and whose claim is L => R; it is accepted if it is within the limits
+pub record TextFor (names : List Bytes) {L R : List Formula} (e : EndsIn L R) : Type 0 where
+  pub transcript : Transcript (length names) (e .derivation)
+  pub left : List ℕ
+  pub right : List ℕ
+  pub claims-left : decoded (transcript .nodes) left ≈ L
+  pub claims-right : decoded (transcript .nodes) right ≈ R
+  pub accepted-if : Within (bodyOf (documentOf names transcript left right)) → length (written (documentOf names transcript left right)) ≤ mostBytes
+      → (t : Lent) → tooShort t ≡ false
+      → (judged t (written (documentOf names transcript left right)) ≡ accepted (length (linesIn (documentOf names transcript left right))))
+      × (contents t (written (documentOf names transcript left right)) ≡ encode (fileOf (documentOf names transcript left right)))
 
 -- names for so many atoms: a0, a1, a2, ..
 abbrev pub plainNames : ℕ → List Bytes
@@ -85,15 +107,3 @@ plainNames (suc n) = plainNames n ++ (bytes "a" ++ decimal n) ∷ []
 abbrev pub countTo : List ℕ → ℕ
 countTo [] = 0
 countTo (p ∷ ps) = max (suc p) (countTo ps)
-
--- a whole file with these names whose rows are a derivation of L => R and whose claim is L => R
-pub record TextFor (names : List Bytes) {L R : List Formula} (e : EndsIn L R) : Type 0 where
-  pub document : Document
-  pub names-given : document .names ≡ names
-  pub steps : AreSteps (length names) (document .nodes) (document .rows) (e .derivation)
-  pub needed : formulas (document .nodes) ≈ subformulasIn (formulasIn (e .derivation))
-  pub left : decoded (document .nodes) (document .left) ≈ L
-  pub right : decoded (document .nodes) (document .right) ≈ R
-  -- it is accepted, if it is within the limits
-  pub accepted-if : Within (bodyOf document) → length (written document) ≤ mostBytes → (t : Lent) → tooShort t ≡ false
-      → (judged t (written document) ≡ accepted (length (linesIn document))) × (contents t (written document) ≡ encode (fileOf document))
