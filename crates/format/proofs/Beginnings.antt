@@ -1,6 +1,5 @@
 -- What every accepted beginning is: its body and its names are good, and its formulas and claim are those that its lines write.
-use Prim.Native.Nat.{ℕ, zero, suc, _+_, _≤_, _<_}
-use native.Mathlib.Decide.{decLt}
+use Prim.Native.Nat.{ℕ, _+_, _≤_, _<_}
 use native.Mathlib.Omega.{arith}
 use mathlib.Core.Path.{_≡_, refl, sym, ap, ap₂, subst, _∙_}
 use mathlib.Core.Bool.{Bool, true, false, not, cond, true≢false}
@@ -9,7 +8,6 @@ use mathlib.Core.List.{
   [],
   _∷_,
   _++_,
-  map,
   map-append,
   append-nil,
   append-assoc,
@@ -18,14 +16,13 @@ use mathlib.Core.List.{
   List·Memᴰ·append-cases,
   List·Memᴰ·eq-of-singleton,
 }
-use mathlib.Core.Logic.{_⊎_, inl, inr, ⊎-elim}
+use mathlib.Core.Logic.{⊎-elim}
 use mathlib.Core.Option.{Option, none, some}
-use lib.ListN.{length, getD, length-append, length-map, List·getD-append}
-use lib.Seq.{getD-at}
+use lib.ListN.{length, length-append, length-map}
 use borrow.Author.Tests.{leb-false}
 use Rattle.equilibrium.specs.Meaning.{_∈_}
 use Rattle.format.specs.Text.{Bytes, isName, any, sameList}
-use Rattle.format.specs.File.{Node, Row, Name, Claim, Body, in-atoms, in-formulas, in-rows, claimed, File, noFile, addRow}
+use Rattle.format.specs.File.{Node, Row, Name, Claim, Body, in-atoms, in-formulas, in-rows, claimed, File, noFile}
 use Rattle.format.specs.Line.{Line, atomLine, formulaLine, rowLine, claimLine, lineOf}
 use Rattle.format.specs.Tables.{mostAtoms}
 use Rattle.format.specs.Tests.{Test, _when_, first, rank, outOfOrder, lastIs, atomTests, nodeTests, formulaTests, bodyTests, rowTests, claimTests}
@@ -52,9 +49,9 @@ use Rattle.format.specs.Judged.{
   saidBy,
 }
 use Rattle.format.specs.Good.{bare, GoodBody, atoms, formula, row, spellings, GoodNames, Good}
-use Rattle.format.proofs.Booleans.{or-false, not-false, any-false, list-same}
+use Rattle.format.proofs.Booleans.{or-false, not-false, list-same}
 use Rattle.format.proofs.Tested.{passes, follows, in-order}
-use Rattle.format.proofs.GoodBodies.{in-getD}
+use Rattle.format.proofs.GoodBodies.{Distinct, distinct-snoc}
 
 settled-next : (o : Option ℕ) (p : Place) (f t : File) → settled o p f ≡ next t → (o ≡ none) × (f ≡ t)
 settled-next none p f t e = (refl, cc)
@@ -101,7 +98,7 @@ module _ {atoms : ℕ} {names : List Name} (start : ℕ) (name : Bytes) (g : Goo
       record {
         count = omega (arith, length-append names (record { start = start; name = name } ∷ []), g .count);
         form = λ n m. ⊎-elim (g .form n) (λ k. subst (λ (x : Bytes). isName x ≡ true) (sym (List·Memᴰ·eq-of-singleton k)) form) (List·Memᴰ·append-cases old (subst (λ (xs : List Bytes). n ∈ xs) spelled m));
-        distinct = λ i j h k e. apart i j (at-end i h) (at-end j k) (sym (ap (λ (xs : List Bytes). getD xs i []) spelled) ∙ e ∙ ap (λ (xs : List Bytes). getD xs j []) spelled);
+        distinct = λ i j h k e. subst (Distinct []) (sym spelled) (distinct-snoc [] old name apart (unused names new)) i j (omega (arith, all)) (omega (arith, all)) e;
       }
     where
       old : List Bytes
@@ -113,35 +110,17 @@ module _ {atoms : ℕ} {names : List Name} (start : ℕ) (name : Bytes) (g : Goo
       as-many : length old ≡ atoms
       as-many = length-map names (λ (n : Name). n .name) ∙ g .count
 
-      at-end : (i : ℕ) → i < atoms + 1 → (i < atoms) ⊎ (i ≡ atoms)
-      at-end i h = cases (decLt i (atoms))
-        where
-          cases : Dec (i < atoms) → (i < atoms) ⊎ (i ≡ atoms)
-          cases (yes l) = inl l
-          cases (no n) = inr (omega arith)
-
-      before : (i : ℕ) → i < atoms → getD (old ++ name ∷ []) i [] ≡ getD old i []
-      before i l = List·getD-append old (name ∷ []) [] i (omega (arith, as-many))
-
-      own : (i : ℕ) → i ≡ atoms → getD (old ++ name ∷ []) i [] ≡ name
-      own i e = getD-at old name [] [] i (as-many ∙ sym e)
-
       unused : (ns : List Name) → any (λ (m : Name). sameList (m .name) name) ns ≡ false → name ∈ spellings ns → ⊥
       unused [] e m = List·Memᴰ·not-nil m
       unused (n ∷ ns) e m =
           let parts = or-false (sameList (n .name) name) _ e in
           ⊎-elim (λ (k : name ≡ n .name). true≢false (sym (list-same name) ∙ ap (λ (x : Bytes). sameList x name) k ∙ parts .0)) (unused ns (parts .1)) (List·Memᴰ·cases-cons m)
 
-      fresh : (i : ℕ) → i < atoms → getD old i [] ≡ name → ⊥
-      fresh i l e = unused names new (subst (λ (x : Bytes). x ∈ old) e (in-getD old i [] (omega (arith, as-many))))
+      apart : Distinct [] old
+      apart i j h k = g .distinct i j (omega (arith, as-many)) (omega (arith, as-many))
 
-      apart :
-          (i j : ℕ) → (i < atoms) ⊎ (i ≡ atoms) → (j < atoms) ⊎ (j ≡ atoms)
-          → getD (old ++ name ∷ []) i [] ≡ getD (old ++ name ∷ []) j [] → i ≡ j
-      apart i j (inl l) (inl m) e = g .distinct i j l m (sym (before i l) ∙ e ∙ before j m)
-      apart i j (inl l) (inr m) e = absurd (fresh i l (sym (before i l) ∙ e ∙ own j m))
-      apart i j (inr l) (inl m) e = absurd (fresh j m (sym (before j m) ∙ sym e ∙ own i l))
-      apart i j (inr l) (inr m) e = l ∙ sym m
+      all : length (spellings (names ++ record { start = start; name = name } ∷ [])) ≡ atoms + 1
+      all = ap length spelled ∙ length-append old (name ∷ []) ∙ omega (arith, as-many)
 
 module _ {done : List Bytes} {f : File} (line : Bytes) (g : Good done f) where
   atom-good : (n at : ℕ) (name : Bytes) → lineOf line ≡ some (atomLine n name) → first (atomTests f n name) ≡ none → Good (done ++ line ∷ []) (withAtom f at name)

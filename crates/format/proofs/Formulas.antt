@@ -4,7 +4,8 @@ use Prim.Native.Nat.{ℕ, zero, suc, _+_, _≤_, _<_}
 use native.Mathlib.Omega.{arith}
 use mathlib.Core.Path.{_≡_, refl, sym, ap, ap₂, _∙_}
 use mathlib.Core.Bool.{false}
-use mathlib.Core.List.{List, [], _∷_, _++_, append-assoc, List·Memᴰ·head, List·Memᴰ·tail}
+use mathlib.Core.List.{List, [], _∷_, _++_, append-assoc, List·Memᴰ·head, List·Memᴰ·tail, List·Memᴰ·not-nil, List·Memᴰ·cases-cons}
+use mathlib.Core.Logic.{_⊎_, inl, inr}
 use lib.ListN.{length, take, drop, length-append, List·getD-append}
 use lib.Seq.{getD-at, split-at, length-take-le}
 use borrow.Author.Tests.{leb-false}
@@ -103,7 +104,7 @@ decoded-node {b} held i h = over ∙ sym (formula-same n (formulas (b .nodes)) (
     known o k = ap (λ (ns : List Node). decodedAt ns o) split ∙ formulas-prefix before (n ∷ drop (suc i) (b .nodes)) o k
 
 -- the node that names these formulas, where each has a number
-abbrev nodeFrom : (Formula → ℕ) → Formula → Node
+abbrev pub nodeFrom : (Formula → ℕ) → Formula → Node
 nodeFrom number falsum = Node.bot
 nodeFrom number (Formula.atom k) = Node.atom k
 nodeFrom number (neg A) = Node.not (number A)
@@ -124,7 +125,7 @@ atOr (yes h) k = 0
 atOr (no n) k = suc k
 
 -- the first place of a formula
-position : List Formula → Formula → ℕ
+pub position : List Formula → Formula → ℕ
 position [] A = 0
 position (B ∷ Bs) A = atOr (formula-discrete A B) (position Bs A)
 
@@ -144,6 +145,18 @@ position-first (B ∷ Bs) (suc i) h = cases (formula-discrete (formulaAt Bs i) B
     cases : (d : Dec (A ≡ B)) → (position Bs A ≤ i) × (formulaAt Bs (position Bs A) ≡ A) → (atOr d (position Bs A) ≤ suc i) × (formulaAt (B ∷ Bs) (atOr d (position Bs A)) ≡ A)
     cases (yes e) rest = (omega arith, sym e)
     cases (no n) rest = (omega (arith, rest .0), rest .1)
+
+-- a formula's place is found among those before which it stands
+pub position-among : (ts us : List Formula) (A : Formula) → A ∈ ts → (position (ts ++ us) A < length ts) × (formulaAt ts (position (ts ++ us) A) ≡ A)
+unfolding position
+position-among [] us A m = absurd (List·Memᴰ·not-nil m)
+position-among (B ∷ Bs) us A m = cases (formula-discrete A B) (λ k. position-among Bs us A k) (List·Memᴰ·cases-cons m)
+  where
+    cases : (d : Dec (A ≡ B)) → (A ∈ Bs → (position (Bs ++ us) A < length Bs) × (formulaAt Bs (position (Bs ++ us) A) ≡ A)) → (A ≡ B) ⊎ (A ∈ Bs)
+        → (atOr d (position (Bs ++ us) A) < length (B ∷ Bs)) × (formulaAt (B ∷ Bs) (atOr d (position (Bs ++ us) A)) ≡ A)
+    cases (yes e) rest k = (omega arith, sym e)
+    cases (no n) rest (inl e) = absurd (n e)
+    cases (no n) rest (inr k) = (omega (arith, rest k .0), rest k .1)
 
 module _ (b : Body) (held : Held b) where
   all-formulas : List Formula

@@ -1,13 +1,12 @@
 -- A row passes the tests of its rule, numbers 10 and 11, exactly when it is an instance of the rule with its premises; and
 -- number 10 alone is for rows whose principal formula or premises are not of the rule's kinds.
 use Prim.Native.Nat.{ℕ}
-use mathlib.Core.Path.{_≡_, refl, sym, _∙_, ap, ap₂, subst}
+use mathlib.Core.Path.{_≡_, refl, sym, ap, ap₂, subst}
 use mathlib.Core.Bool.{Bool, true, false, cond, not, _&&_, _||_, true≢false, false≢true}
 use mathlib.Core.List.{List, [], _∷_, map}
 use mathlib.Core.Option.{Option, none, some, IsSome}
 use mathlib.Core.Logic.{_↔_}
 use lib.Dec.{T}
-use Rattle.equilibrium.specs.Formula.{Formula}
 use Rattle.elk.specs.Sequent.{Kind, elk, refutation, Sequent}
 use Rattle.elk.specs.Rules.{entry, hasPrincipal, premiseKinds}
 use Rattle.elk.proofs.Decision.{instance?}

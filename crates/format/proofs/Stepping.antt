@@ -11,7 +11,7 @@ use Rattle.format.specs.Text.{Bytes, onto, partsAt, lineFeed, linesOf, a
 use Rattle.format.specs.File.{Node, Row, File}
 use Rattle.format.specs.Line.{Line, atomLine, formulaLine, rowLine, claimLine, lineOf}
 use Rattle.format.specs.Tests.{Test, first, atomTests, formulaTests, rowTests, claimTests}
-use Rattle.format.specs.Judged.{Place, Outcome, next, refused, settled, orBadLine, stepRead, step, after, below, run, withAtom, withNode, withRow, withClaim, nameStart, Answer, turnedDown, orNoClaim, finish, runFrom, answerFrom}
+use Rattle.format.specs.Judged.{Place, Outcome, next, refused, settled, orBadLine, stepRead, step, after, below, run, withAtom, withNode, withRow, withClaim, nameStart, turnedDown, orNoClaim, finish, runFrom, answerFrom}
 
 -- the first test that applies gives its number
 

@@ -8,7 +8,7 @@ use lib.Dec.{ltb}
 use lib.ListN.{length, getD}
 use Rattle.equilibrium.specs.Meaning.{_∈_, Fails}
 use Rattle.format.specs.Text.{Bytes, linesOf, fieldsOf}
-use Rattle.format.specs.File.{Node, Row, Claim, Body, in-atoms, in-formulas, in-rows, claimed, File, addNode, addRow, noFile, decoded}
+use Rattle.format.specs.File.{Node, Row, Claim, in-atoms, in-formulas, in-rows, claimed, File, addNode, addRow, noFile, decoded}
 use Rattle.format.specs.Line.{Line, atomLine, formulaLine, rowLine, claimLine, lineOf}
 use Rattle.format.specs.Tables.{Lent, tooShort, Contents, encode, mostBytes}
 use Rattle.format.specs.Tests.{Test, _when_, first, atomTests, formulaTests, rowTests, claimTests}
