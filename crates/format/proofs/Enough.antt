@@ -43,7 +43,8 @@ same-node : (m n : Node) → sameNode m n ≡ true → m ≡ n
 same-node m n e = sym (node-record-back m) ∙ ap nodeBack (same-list (nodeRecord m) (nodeRecord n) e) ∙ node-record-back n
 
 -- a formula over earlier numbers that is not there yet
-pub node-enough : (b : Body) (node : Node) → length (b .nodes) < mostFormulas → refersAhead b node ≡ false → (node ∈ b .nodes → ⊥) → first (nodeTests b node) ≡ none
+pub node-enough : (b : Body) (node : Node) → length (b .nodes) < mostFormulas → refersAhead b node ≡ false → (node ∈ b .nodes → ⊥)
+    → first (nodeTests b node) ≡ none
 node-enough b node room earlier new =
     let fresh = any-none (λ m. sameNode m node) (b .nodes) (λ m i e. new (Memᴰ·cast (sym (same-node m node e)) i)) in
     rw (lt-leb mostFormulas (length (b .nodes)) room, earlier, fresh)

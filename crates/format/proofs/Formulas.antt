@@ -86,7 +86,9 @@ formula-same (Node.imp i j) ts us e = ap₂ imp (e i (List·Memᴰ·head refl)) 
 
 -- in a held body, the formula of a number is that of its node over the formulas of all numbers
 pub decoded-node : {b : Body} → Held b → (i : ℕ) → i < length (b .nodes) → decodedAt (b .nodes) i ≡ formulaOf (formulas (b .nodes)) (nodeAt b i)
-decoded-node {b} held i h = over ∙ sym (formula-same n (formulas (b .nodes)) (formulas before) (λ o m. known o (operands-earlier (beforeNode b i) n (held .earlier i h) o m)))
+decoded-node {b} held i h =
+    over
+    ∙ sym (formula-same n (formulas (b .nodes)) (formulas before) (λ o m. known o (operands-earlier (beforeNode b i) n (held .earlier i h) o m)))
   where
     before : List Node
     before = take i (b .nodes)
@@ -112,7 +114,8 @@ nodeFrom number (conj A B) = Node.and (number A) (number B)
 nodeFrom number (disj A B) = Node.or (number A) (number B)
 nodeFrom number (imp A B) = Node.imp (number A) (number B)
 
-node-back : (number : Formula → ℕ) (ts : List Formula) (n : Node) → ((i : ℕ) → i ∈ operands n → number (formulaAt ts i) ≡ i) → nodeFrom number (formulaOf ts n) ≡ n
+node-back : (number : Formula → ℕ) (ts : List Formula) (n : Node) → ((i : ℕ) → i ∈ operands n → number (formulaAt ts i) ≡ i)
+    → nodeFrom number (formulaOf ts n) ≡ n
 node-back number ts Node.bot e = refl
 node-back number ts (Node.atom k) e = refl
 node-back number ts (Node.not i) e = ap Node.not (e i (List·Memᴰ·head refl))
@@ -129,7 +132,8 @@ pub position : List Formula → Formula → ℕ
 position [] A = 0
 position (B ∷ Bs) A = atOr (formula-discrete A B) (position Bs A)
 
-position-first : (ts : List Formula) (i : ℕ) → i < length ts → (position ts (formulaAt ts i) ≤ i) × (formulaAt ts (position ts (formulaAt ts i)) ≡ formulaAt ts i)
+position-first : (ts : List Formula) (i : ℕ) → i < length ts
+    → (position ts (formulaAt ts i) ≤ i) × (formulaAt ts (position ts (formulaAt ts i)) ≡ formulaAt ts i)
 unfolding position
 position-first [] i h = absurd (omega arith)
 position-first (B ∷ Bs) zero h = found (formula-discrete B B)
@@ -142,7 +146,8 @@ position-first (B ∷ Bs) (suc i) h = cases (formula-discrete (formulaAt Bs i) B
     A : Formula
     A = formulaAt Bs i
 
-    cases : (d : Dec (A ≡ B)) → (position Bs A ≤ i) × (formulaAt Bs (position Bs A) ≡ A) → (atOr d (position Bs A) ≤ suc i) × (formulaAt (B ∷ Bs) (atOr d (position Bs A)) ≡ A)
+    cases : (d : Dec (A ≡ B)) → (position Bs A ≤ i) × (formulaAt Bs (position Bs A) ≡ A)
+        → (atOr d (position Bs A) ≤ suc i) × (formulaAt (B ∷ Bs) (atOr d (position Bs A)) ≡ A)
     cases (yes e) rest = (omega arith, sym e)
     cases (no n) rest = (omega (arith, rest .0), rest .1)
 
@@ -162,9 +167,12 @@ module _ (b : Body) (held : Held b) where
   all-formulas : List Formula
   all-formulas = formulas (b .nodes)
 
-  node-from-own : (j : ℕ) → j < length (b .nodes) → ((o : ℕ) → o < j → position all-formulas (formulaAt all-formulas o) ≡ o) → nodeFrom (position all-formulas) (formulaAt all-formulas j) ≡ nodeAt b j
+  node-from-own : (j : ℕ) → j < length (b .nodes) → ((o : ℕ) → o < j → position all-formulas (formulaAt all-formulas o) ≡ o)
+      → nodeFrom (position all-formulas) (formulaAt all-formulas j) ≡ nodeAt b j
   unfolding all-formulas
-  node-from-own j h own = ap (nodeFrom (position all-formulas)) (decoded-node held j h) ∙ node-back (position all-formulas) all-formulas (nodeAt b j) (λ o m. own o (before o m))
+  node-from-own j h own =
+      ap (nodeFrom (position all-formulas)) (decoded-node held j h)
+      ∙ node-back (position all-formulas) all-formulas (nodeAt b j) (λ o m. own o (before o m))
     where
       before : (o : ℕ) → o ∈ operands (nodeAt b j) → o < j
       before o m = omega (arith, operands-earlier (beforeNode b j) (nodeAt b j) (held .earlier j h) o m, length-take-le j (b .nodes) (omega arith))
@@ -181,7 +189,9 @@ module _ (b : Body) (held : Held b) where
       first = position-first all-formulas i (rw length-formulas k)
 
       own : ((o : ℕ) → o < n → o < length (b .nodes) → position all-formulas (formulaAt all-formulas o) ≡ o) → place ≡ i
-      own earlier = held .distinct place i (omega (arith, first .0)) k (sym (back place (first .0)) ∙ ap (nodeFrom (position all-formulas)) (first .1) ∙ back i (omega arith))
+      own earlier =
+          held .distinct place i (omega (arith, first .0)) k
+          (sym (back place (first .0)) ∙ ap (nodeFrom (position all-formulas)) (first .1) ∙ back i (omega arith))
         where
           back : (j : ℕ) → j ≤ i → nodeFrom (position all-formulas) (formulaAt all-formulas j) ≡ nodeAt b j
           back j l = node-from-own j (omega arith) (λ o m. earlier o (omega arith) (omega arith))

@@ -49,7 +49,8 @@ in-getD (x ∷ xs) (suc i) d h = List·Memᴰ·tail (in-getD xs i d (omega arith
 
 pub in-place : {X : Type 0} {x : X} (xs : List X) (d : X) → x ∈ xs → (i : ℕ) × (i < length xs) × (getD xs i d ≡ x)
 in-place [] d m = absurd (List·Memᴰ·not-nil m)
-in-place {x} (y ∷ ys) d m = ⊎-elim (λ (e : x ≡ y). (0, omega arith, sym e)) (λ k. let at = in-place ys d k in (suc (at .0), omega (arith, at .1), at .2)) (List·Memᴰ·cases-cons m)
+in-place {x} (y ∷ ys) d m =
+    ⊎-elim (λ (e : x ≡ y). (0, omega arith, sym e)) (λ k. let at = in-place ys d k in (suc (at .0), omega (arith, at .1), at .2)) (List·Memᴰ·cases-cons m)
 
 -- the last of n + 1, or one before it
 pub at-end : (n i : ℕ) → i < suc n → (i < n) ⊎ (i ≡ n)
@@ -215,11 +216,15 @@ good-held (GoodBody.row {b} g r ok) = held-row b r (good-held g) (passed-row b r
 
 -- the premises' sequents are among those of the earlier rows
 premises-derived : (b : Body) (r : Row) → any (notEarlier (length (b .rows))) (r .premises) ≡ false → premisesOf b r ⊆ derived (b .nodes) (b .rows)
-premises-derived b r known s m = among (r .premises) (λ i k. leb-false (length (b .rows)) i (any-false (notEarlier (length (b .rows))) (r .premises) known i k)) m
+premises-derived b r known s m =
+    among (r .premises) (λ i k. leb-false (length (b .rows)) i (any-false (notEarlier (length (b .rows))) (r .premises) known i k)) m
   where
-    among : (is : List ℕ) → ((i : ℕ) → i ∈ is → i < length (b .rows)) → s ∈ map (λ i. sequentOf (b .nodes) (getD (b .rows) i r)) is → s ∈ derived (b .nodes) (b .rows)
+    among : (is : List ℕ) → ((i : ℕ) → i ∈ is → i < length (b .rows)) → s ∈ map (λ i. sequentOf (b .nodes) (getD (b .rows) i r)) is
+        → s ∈ derived (b .nodes) (b .rows)
     among [] h k = absurd (List·Memᴰ·not-nil k)
-    among (i ∷ is) h k = ⊎-elim (λ e. in-reverse _ [] (Memᴰ·cast e (Memᴰ·map (sequentOf (b .nodes)) (in-getD (b .rows) i r (h i (List·Memᴰ·head refl)))))) (λ j. among is (λ x l. h x (List·Memᴰ·tail l)) j) (List·Memᴰ·cases-cons k)
+    among (i ∷ is) h k =
+        let there = Memᴰ·map (sequentOf (b .nodes)) (in-getD (b .rows) i r (h i (List·Memᴰ·head refl))) in
+        ⊎-elim (λ e. in-reverse _ [] (Memᴰ·cast e there)) (λ j. among is (λ x l. h x (List·Memᴰ·tail l)) j) (List·Memᴰ·cases-cons k)
 
 -- the rows of a good body, decoded, are a derivation
 pub good-derivation : {b : Body} → GoodBody b → Derivation (derived (b .nodes) (b .rows))

@@ -160,7 +160,8 @@ occurs-below (A ∷ As) B m = either-atoms (part-atoms A B) (occurs-below As B) 
 closed : {fs : List Formula} → Numbering fs → (A : Formula) → A ∈ fs → partsOf A ⊆ fs
 closed none-yet A m B k = absurd (List·Memᴰ·not-nil m)
 closed (next {fs} n C parts new) A m B k =
-    Memᴰ·append-left (C ∷ []) (⊎-elim (λ i. closed n A i B k) (λ i. parts B (subst (λ D. B ∈ partsOf D) (List·Memᴰ·eq-of-singleton i) k)) (List·Memᴰ·append-cases fs m))
+    let last : A ∈ C ∷ [] → B ∈ fs = λ i. parts B (subst (λ D. B ∈ partsOf D) (List·Memᴰ·eq-of-singleton i) k) in
+    Memᴰ·append-left (C ∷ []) (⊎-elim (λ i. closed n A i B k) last (List·Memᴰ·append-cases fs m))
 
 module _ (fs : List Formula) (n : Numbering fs) where
   with-part : {A : Formula} {As : List Formula} → A ∈ fs → As ⊆ fs → A ∷ As ⊆ fs
@@ -265,7 +266,8 @@ module _ (whole : List Formula) where
             new (Memᴰ·cast (sym same) (B .1))
 
         passing : first (nodeTests (over (map nodeOf fs)) (nodeOf A)) ≡ none
-        passing = node-enough (over (map nodeOf fs)) (nodeOf A) (omega (arith, length-map fs nodeOf, longer)) (refers-back fs (A ∷ rest) split A here parts) fresh
+        passing =
+            node-enough (over (map nodeOf fs)) (nodeOf A) (omega (arith, length-map fs nodeOf, longer)) (refers-back fs (A ∷ rest) split A here parts) fresh
 
 -- no formula stands twice
 numbering-distinct : {fs : List Formula} → Numbering fs → Distinct falsum fs

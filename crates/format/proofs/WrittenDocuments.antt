@@ -14,7 +14,8 @@ use Rattle.format.specs.Line.{Line, atomLine, formulaLine, rowLine, clai
 use Rattle.format.specs.Tables.{Lent, tooShort, encode, mostAtoms, mostFormulas, mostRows, mostBytes}
 use Rattle.format.specs.Tests.{_when_, first, rank, outOfOrder, notEarlier, unknownFormula, listed, refersAhead, badSide, lastIs}
 use Rattle.format.specs.Tests.{atomTests, nodeTests, formulaTests, bodyTests, rowTests, claimTests}
-use Rattle.format.specs.Judged.{Place, Outcome, next, settled, step, after, below, run, top, beginning, accepted, finish, answerFrom, judged, contents, heldBy}
+use Rattle.format.specs.Judged.{Place, Outcome, next, settled, step, after, below, run}
+use Rattle.format.specs.Judged.{top, beginning, accepted, finish, answerFrom, judged, contents, heldBy}
 use Rattle.format.specs.Judged.{withAtom, withNode, withRow, withClaim, nameStart}
 use Rattle.format.specs.Good.{bare, GoodBody, atoms, formula, row, spellings, GoodNames}
 use Rattle.format.specs.Written.{Each, decimal, Small, nodeNumbers, Writable, bytesOf}
@@ -62,7 +63,8 @@ leads-append {p} {ms} {ns} {f} first rest =
     }
 
 -- one line more
-leads-snoc : {p : Place} {ls : List Line} {f u t : File} (l : Line) → Leads p ls f u → Writable l → step u (past p ls) (bytesOf l) ≡ next t → Leads p (ls ++ l ∷ []) f t
+leads-snoc : {p : Place} {ls : List Line} {f u t : File} (l : Line) → Leads p ls f u → Writable l → step u (past p ls) (bytesOf l) ≡ next t
+    → Leads p (ls ++ l ∷ []) f t
 leads-snoc l before w e = leads-append before (leads-cons w e (leads-nil refl))
 
 past-line : (p : Place) (ls : List Line) → past p ls .line ≡ p .line + length ls
@@ -105,7 +107,8 @@ names-lead : (names : List Bytes) (p : Place) (k total : ℕ) (before : List Nam
     → Leads p (numbered atomLine k names) (atomFile k before) (atomFile total (before ++ namesFrom k (p .start) names))
 names-lead [] p k total before e l form apart = leads-nil (ap₂ atomFile (omega arith) (sym (append-nil before)))
 names-lead (name ∷ names) p k total before e l form apart =
-    let more = names-lead names (below p (bytesOf (atomLine k name))) (k + 1) total (before ++ own ∷ []) (omega arith) l (λ n m. form n (List·Memᴰ·tail m)) rest in
+    let more =
+    names-lead names (below p (bytesOf (atomLine k name))) (k + 1) total (before ++ own ∷ []) (omega arith) l (λ n m. form n (List·Memᴰ·tail m)) rest in
     leads-cons writable stepped (subst (Leads _ _ _) (ap (atomFile total) (append-assoc before (own ∷ []) _)) more)
   where
     own : Name
@@ -168,7 +171,8 @@ row-writable b r l ok =
 abbrev linesBefore : List Bytes → Body → List Line
 linesBefore names b = numbered atomLine 0 names ++ (numbered formulaLine 0 (b .nodes) ++ numbered rowLine 0 (b .rows))
 
-numbered-snoc : {X : Type 0} (line : ℕ → X → Line) (n : ℕ) (xs : List X) (x : X) (k : ℕ) → k ≡ n + length xs → numbered line n (xs ++ x ∷ []) ≡ numbered line n xs ++ line k x ∷ []
+numbered-snoc : {X : Type 0} (line : ℕ → X → Line) (n : ℕ) (xs : List X) (x : X) (k : ℕ) → k ≡ n + length xs
+    → numbered line n (xs ++ x ∷ []) ≡ numbered line n xs ++ line k x ∷ []
 numbered-snoc line n [] x k e = let same : n ≡ k = omega arith in ap (λ (m : ℕ). line m x ∷ []) same
 numbered-snoc line n (y ∷ ys) x k e = ap (λ (ls : List Line). line n y ∷ ls) (numbered-snoc line (n + 1) ys x k (omega arith))
 
@@ -196,7 +200,7 @@ body-leads names (atoms n h) good =
       stage = in-atoms;
       no-claim = omega arith;
       no-rows = λ e. omega arith;
-      leads = subst (λ (ls : List Line). Leads top ls noFile (atomFile n (namesIn names))) (sym (append-nil (numbered atomLine 0 names))) (names-lead names top 0 n [] (omega (arith, count)) h form apart);
+      leads = subst (λ (ls : List Line). Leads top ls noFile (atomFile n (namesIn names))) (sym (append-nil (numbered atomLine 0 names))) only-names;
     }
   where
     same : spellings (namesIn names) ≡ names
@@ -208,9 +212,11 @@ body-leads names (atoms n h) good =
     form : (name : Bytes) → name ∈ names → isName name ≡ true
     form name m = good .form name (subst (λ (ns : List Bytes). name ∈ ns) (sym same) m)
 
-    apart : Distinct [] names
-    apart i j h k e =
-        good .distinct i j (omega (arith, count)) (omega (arith, count)) (ap (λ (ns : List Bytes). getD ns i []) same ∙ e ∙ sym (ap (λ (ns : List Bytes). getD ns j []) same))
+    all-apart : Distinct [] (spellings (namesIn names))
+    all-apart i j l k = good .distinct i j (omega (arith, ap length same, count)) (omega (arith, ap length same, count))
+
+    only-names : Leads top (numbered atomLine 0 names) noFile (atomFile n (namesIn names))
+    only-names = names-lead names top 0 n [] (omega (arith, count)) h form (subst (Distinct []) same all-apart)
 body-leads names (formula {b} g none-yet node ok) good = add (body-leads names g good)
   where
     held : Held b
@@ -225,7 +231,7 @@ body-leads names (formula {b} g none-yet node ok) good = add (body-leads names g
           stage = in-formulas;
           no-claim = omega arith;
           no-rows = λ e. omega arith;
-          leads = subst (λ (ls : List Line). Leads top ls noFile (withNode now node)) (lines-node names b node none-yet) (leads-snoc line (before .leads) writable stepped);
+          leads = subst (λ (ls : List Line). Leads top ls noFile (withNode now node)) (lines-node names b node none-yet) more;
         }
       where
         line : Line
@@ -244,6 +250,9 @@ body-leads names (formula {b} g none-yet node ok) good = add (body-leads names g
         stepped =
             step-formula now _ _ (length (b .nodes)) node (line-back line writable)
             ∙ ap (λ o. settled o (past top (linesBefore names b)) (withNode now node)) passing
+
+        more : Leads top (linesBefore names b ++ line ∷ []) noFile (withNode now node)
+        more = leads-snoc line (before .leads) writable stepped
 body-leads names (row {b} g r ok) good = add (body-leads names g good)
   where
     writable : Writable (rowLine (length (b .rows)) r)
@@ -255,7 +264,7 @@ body-leads names (row {b} g r ok) good = add (body-leads names g good)
           stage = in-rows;
           no-claim = omega arith;
           no-rows = λ e. absurd (omega (arith, length-append (b .rows) (r ∷ []), ap length e));
-          leads = subst (λ (ls : List Line). Leads top ls noFile (withRow now r)) (lines-row names b r) (leads-snoc line (before .leads) writable stepped);
+          leads = subst (λ (ls : List Line). Leads top ls noFile (withRow now r)) (lines-row names b r) more;
         }
       where
         line : Line
@@ -274,6 +283,9 @@ body-leads names (row {b} g r ok) good = add (body-leads names g good)
         stepped =
             step-row now _ _ (length (b .rows)) r (line-back line writable)
             ∙ ap (λ o. settled o (past top (linesBefore names b)) (withRow now r)) passing
+
+        more : Leads top (linesBefore names b ++ line ∷ []) noFile (withRow now r)
+        more = leads-snoc line (before .leads) writable stepped
 
 -- ---- the C line
 
@@ -334,7 +346,9 @@ module _ (d : Document) (good : GoodDocument d) where
   document-leads =
       let now = unclaimed (namesIn (d .names)) (to-body .stage) (bodyOf d) in
       let file : ℕ → File = λ n. withClaim now (record { line = n; left = d .left; right = d .right }) in
-      let claim = claim-leads (namesIn (d .names)) (bodyOf d) (good-held (good .body)) (d .left) (d .right) (good .claim) (to-body .stage) (to-body .no-claim) (past top before) in
+      let held = good-held (good .body) in
+      let leads = claim-leads (namesIn (d .names)) (bodyOf d) held (d .left) (d .right) (good .claim) in
+      let claim = leads (to-body .stage) (to-body .no-claim) (past top before) in
       subst (λ (ls : List Line). Leads top ls noFile (fileOf d)) all-lines (leads-append (to-body .leads) (subst (Leads _ _ _) (ap file claim-line) claim))
 
   lines : linesOf (written d) ≡ record { complete = map bytesOf (linesIn d); rest = [] }
