@@ -18,7 +18,7 @@ use Rattle.rows.specs.Judgement.{Drafted, Ground, earlyTests, RowNumbere
 use Rattle.rows.specs.Judging.{Judging, numberOf}
 use Rattle.rows.specs.declared.Verdict.{Verdict}
 use Rattle.rows.specs.declared.draft.Draft.{Draft}
-use Rattle.rows.proofs.Early.{early-same, ready}
+use Rattle.rows.proofs.EarlyTests.{early-same, ready}
 
 -- the first test that applies in one list, or else in another
 abbrev orElse : Option ℕ → Option ℕ → Option ℕ
@@ -96,7 +96,7 @@ module _ (d : Draft) (c : Counts) (left right formulas words rows leftPool right
           ∙ sym (
           first-append (earlyTests b r) (ruleTests b r)
           ∙ ap (λ (o : Option ℕ). orElse o (first (ruleTests b r)))
-          (sym (ap first (early-same (g .counts) drafted)) ∙ sym is-early ∙ numbered-some early h))
+          (sym (ap first (early-same b (g .counts) drafted)) ∙ sym is-early ∙ numbered-some early h))
 
   -- none does, and the rule decides
   pub late-numbered : early ≡ 0 → (v : Verdict) → ((b : Body) (r : Row) → Judging b r formulas words rows leftPool rightPool d (take (d .left .count) left) (take (d .right .count) right) → numberOf v ≡ first (ruleTests b r))
@@ -114,6 +114,6 @@ module _ (d : Draft) (c : Counts) (left right formulas words rows leftPool right
 
       given : (b : Body) (r : Row) → Ground b c formulas words rows leftPool rightPool → Drafted r d left right → numbered (verdictNumber v) ≡ first (bodyTests b r)
       given b r g drafted =
-          let none-here = sym (ap first (early-same (g .counts) drafted)) ∙ none-early in
+          let none-here = sym (ap first (early-same b (g .counts) drafted)) ∙ none-early in
           verdict-numbered v ∙ judged b r (ready g drafted none-here)
           ∙ sym (first-append (earlyTests b r) (ruleTests b r) ∙ ap (λ (o : Option ℕ). orElse o (first (ruleTests b r))) none-here)

@@ -205,3 +205,71 @@ module _ (b : Body) (q : Row) where
   pub wrong-count : (length (q .premises) ≡ length (premiseKinds (entry (q .rule))) → ⊥) → wrongPremises b q ≡ true
   unfolding asked
   wrong-count n = kinds-differ (count-differs past (kindsOf b q) asked (λ e. n (sym counted ∙ e)))
+
+-- number 10 by the numbers that are compared: the principal formula's, the count of premises, and the premises' kinds
+module _ {b : Body} {q : Row} {formulas words rows leftPool rightPool left right : List ℕ} {d : Draft}
+    (j : Judging b q formulas words rows leftPool rightPool d left right) where
+  abbrev asksFor : List Kind
+  asksFor = premiseKinds (entry (q .rule))
+
+  module _ (had asked : ℕ) (is-had : had ≡ namedOf (d .principal)) (is-asked : asked ≡ ruleNumber (d .rule) 2) where
+    principal-had : had ≡ truthNumber (present (q .principal))
+    principal-had = is-had ∙ named-principal j
+
+    principal-asked : asked ≡ truthNumber (hasPrincipal (entry (q .rule)))
+    principal-asked = is-asked ∙ asked-number j 2 (omega arith)
+
+    pub ten-principal : (had ≡ asked → ⊥) → true ≡ wrongPremises b q
+    ten-principal n = sym (principal-differs b q (λ e. n (principal-had ∙ e ∙ sym principal-asked)))
+
+    module _ (same : had ≡ asked) (count : ℕ) (is-count : count ≡ ruleNumber (d .rule) 3) where
+      count-asked : count ≡ length asksFor
+      count-asked = is-count ∙ asked-number j 3 (omega arith)
+
+      named : truthNumber (present (q .principal)) ≡ truthNumber (hasPrincipal (entry (q .rule)))
+      named = sym principal-had ∙ same ∙ principal-asked
+
+      pub ten-count : (d .premises .count ≡ count → ⊥) → true ≡ wrongPremises b q
+      ten-count n = sym (wrong-count b q (λ e. n (sym (j .count) ∙ e ∙ sym count-asked)))
+
+      module _ (counts : d .premises .count ≡ count) where
+        as-many : length (q .premises) ≡ length asksFor
+        as-many = j .count ∙ counts ∙ count-asked
+
+        pub none-wrong : count ≡ 0 → false ≡ wrongPremises b q
+        none-wrong z = sym (right-none b q as-many named (sym count-asked ∙ z))
+
+        module _ (some : count ≡ 0 → ⊥) (kind asked-kind : ℕ) (is-kind : kind ≡ ruleNumber (rowOf (rowAt rows (d .first)) .rule) 1)
+            (is-asked-kind : asked-kind ≡ ruleNumber (d .rule) 4) where
+          first-had : kind ≡ premiseKind b q 0
+          first-had = is-kind ∙ premise-kind j 0 (d .first) (omega (arith, as-many, count-asked)) (j .first-premise)
+
+          first-asked : asked-kind ≡ kindAsked asksFor 0
+          first-asked = is-asked-kind ∙ asked-number j 4 (omega arith) ∙ asked-first (q .rule)
+
+          pub ten-first : (kind ≡ asked-kind → ⊥) → true ≡ wrongPremises b q
+          ten-first n = sym (wrong-first b q as-many (λ e. some (count-asked ∙ e)) (λ e. n (first-had ∙ e ∙ sym first-asked)))
+
+          module _ (first-same : kind ≡ asked-kind) where
+            first-right : premiseKind b q 0 ≡ kindAsked asksFor 0
+            first-right = sym first-had ∙ first-same ∙ first-asked
+
+            pub one-right : count ≡ 1 → false ≡ wrongPremises b q
+            one-right e = sym (right-one b q as-many named first-right (sym count-asked ∙ e))
+
+            module _ (more : count ≡ 1 → ⊥) (kind₂ asked-kind₂ : ℕ) (is-kind₂ : kind₂ ≡ ruleNumber (rowOf (rowAt rows (d .second)) .rule) 1)
+                (is-asked-kind₂ : asked-kind₂ ≡ ruleNumber (d .rule) 5) where
+              two : length asksFor ≡ 2
+              two = omega (arith, two-at-most (q .rule), count-asked)
+
+              second-had : kind₂ ≡ premiseKind b q 1
+              second-had = is-kind₂ ∙ premise-kind j 1 (d .second) (omega (arith, as-many, two)) (j .second-premise)
+
+              second-asked : asked-kind₂ ≡ kindAsked asksFor 1
+              second-asked = is-asked-kind₂ ∙ asked-number j 5 (omega arith) ∙ asked-second (q .rule)
+
+              pub ten-second : (kind₂ ≡ asked-kind₂ → ⊥) → true ≡ wrongPremises b q
+              ten-second n = sym (wrong-second b q as-many two (λ e. n (second-had ∙ e ∙ sym second-asked)))
+
+              pub two-right : kind₂ ≡ asked-kind₂ → false ≡ wrongPremises b q
+              two-right e = sym (right-two b q as-many named first-right two (sym second-had ∙ e ∙ second-asked))

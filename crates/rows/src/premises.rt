@@ -70,5 +70,8 @@ pub(crate) fn wrong_premises(rows: &[u16], draft: Draft) -> bool
     if premises == 1 {
         return false;
     }
-    kind_of(rows, draft.second) != rule_number(rule, SECOND_KIND)
+    if kind_of(rows, draft.second) != rule_number(rule, SECOND_KIND) {
+        return true;
+    }
+    false
 }

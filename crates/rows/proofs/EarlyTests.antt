@@ -75,8 +75,8 @@ own-tests b r rule one two =
     (past-listed (r .left) (length (b .nodes))) (past-listed (r .right) (length (b .nodes))))
 
 -- the tests of a row as it was read are its tests over the body
-pub early-same : {b : Body} {r : Row} {d : Draft} {c : Counts} {left right : List ℕ} → c ≡ countsOf b → Drafted r d left right → earlyOf d c ≡ earlyTests b r
-early-same {b} {r} {d} {c} counts drafted =
+pub early-same : (b : Body) {r : Row} {d : Draft} {c : Counts} {left right : List ℕ} → c ≡ countsOf b → Drafted r d left right → earlyOf d c ≡ earlyTests b r
+early-same b {r} {d} {c} counts drafted =
     ap (earlyOf d) counts
     ∙ ap₂ (λ (o : Optional) (l : Listed). earlyOf (record { rule = d .rule; principal = o; premises = l; first = d .first; second = d .second; left = d .left; right = d .right }) (countsOf b)) (drafted .principal) (drafted .premises)
     ∙ ap₂ (λ (l m : Listed). earlyOf (record { rule = d .rule; principal = principalAs (some (r .principal)); premises = listedAs (some (r .premises)); first = d .first; second = d .second; left = l; right = m }) (countsOf b)) (drafted .left-laid .answer) (drafted .right-laid .answer)

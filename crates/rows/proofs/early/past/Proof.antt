@@ -1,0 +1,17 @@
+-- `rows::early::past` meets its contract. Assumes nothing.
+use borrow.Author.Needs.{needs}
+use borrow.Author.Tests.{eq-eqb, ne-eqb}
+use Rattle.rows.proofs.early.past.Statement.{statement}
+use Rattle.rows.proofs.early.past.Tie as tie
+
+returns : tie.Need-returns
+returns c = rw (eq-eqb _ _ (c .if1 .taken))
+
+cast-result : tie.Need-cast-result
+cast-result c = search needs
+
+returns-2 : tie.Need-returns-2
+returns-2 c = rw (ne-eqb _ _ (c .before .if1 .left))
+
+pub past-spec : {M : Type 1} → statement M
+past-spec = tie.close (tie.spec returns cast-result returns-2)
