@@ -117,6 +117,10 @@ packedFrom n (x ∷ xs) = packedFrom (n * 8 + x) xs
 abbrev pub packedRules : List ℕ
 packedRules = map (λ (r : Rule). packedFrom 0 (ruleNumbers r)) rules
 
+-- the place of the first part
+abbrev pub partsFrom : ℕ
+partsFrom = 6
+
 -- the count of a rule's numbers
 abbrev pub countOfNumbers : ℕ
 countOfNumbers = 18
