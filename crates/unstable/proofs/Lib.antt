@@ -5,4 +5,7 @@ mod Steps
 mod Joined
 mod ChoiceSets
 mod FixingPass
+mod Words
+mod FixedSide
 mod Instances
+mod Tests

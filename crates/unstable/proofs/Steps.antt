@@ -57,7 +57,7 @@ unsigned sign p rest e = ap (λ (t : Bool). cond t none ((λ c. (p, eqb sign 1) 
 
 -- the rest that is read as the choice at p and on
 module _ (formulas : List ℕ) (k p : ℕ) where
-  pub choice-none : (q : ℕ) (qs : List ℕ) → conjuncts (shapeIn formulas k) ≡ none → choiceIn formulas k p (q ∷ qs) ≡ none
+  choice-none : (q : ℕ) (qs : List ℕ) → conjuncts (shapeIn formulas k) ≡ none → choiceIn formulas k p (q ∷ qs) ≡ none
   unfolding choiceIn
   choice-none q qs e = ap (λ (o : Option (ℕ × ℕ)). with o none (λ o. withSign (signOf (shapeIn formulas (o .0)) p) p (choiceIn formulas (o .1) q qs))) e
 
@@ -77,7 +77,7 @@ pub record Onward (whole : Option Chosen) (formulas : List ℕ) (at p : ℕ) (ps
   pub refused : choiceIn formulas at p ps ≡ none → whole ≡ none
   pub made : (c : Chosen) → choiceIn formulas at p ps ≡ some c → (d : Chosen) × (whole ≡ some d) × ((i : ℕ) → (i ∈ chosen d) ↔ (Member i set ⊎ (i ∈ chosen c)))
 
-pub onward-starts :
+onward-starts :
     (formulas : List ℕ) (k p : ℕ) (ps : List ℕ) (set : ℕ) → p < 64 → ((i : ℕ) → has set i ≡ false)
     → Onward (choiceIn formulas k p ps) formulas k p ps set
 onward-starts formulas k p ps set h none-in = record {
@@ -87,7 +87,7 @@ onward-starts formulas k p ps set h none-in = record {
 }
 
 module _ {whole : Option Chosen} {formulas : List ℕ} {at p : ℕ} {ps : List ℕ} {set : ℕ} (o : Onward whole formulas at p ps set) where
-  pub onward-fails : choiceIn formulas at p ps ≡ none → Chooses whole (record { made = false; set = 0 })
+  onward-fails : choiceIn formulas at p ps ≡ none → Chooses whole (record { made = false; set = 0 })
   onward-fails e = record { refused = λ f. o .refused e; made = λ f. absurd (false≢true f) }
 
   -- one atom more is read, with the sign of its formula
@@ -116,7 +116,7 @@ module _ {whole : Option Chosen} {formulas : List ℕ} {at p : ℕ} {ps : List �
 
 module _ {whole : Option Chosen} {formulas : List ℕ} {at p set : ℕ} where
   -- the next atom is read off the second conjunct
-  pub onward-next :
+  onward-next :
       (more : ℕ) {q x y sign : ℕ} {qs : List ℕ} → Onward whole formulas at p (q ∷ qs) set → q < 64 → shapeIn formulas at ≡ Conjunction x y
       → sign ≡ signOf (shapeIn formulas x) p → sign ≢ 0 → ((i : ℕ) → has more i ≡ (has set i || (eqb sign 1 && is i p)))
       → Onward whole formulas y q qs more
@@ -125,13 +125,13 @@ module _ {whole : Option Chosen} {formulas : List ℕ} {at p set : ℕ} where
       let t = taken o more (choiceIn formulas y q qs) n here m in
       record { small = h; refused = t .0; made = t .1 }
 
-  pub unsigned-next :
+  unsigned-next :
       {q x y sign : ℕ} {qs : List ℕ} → Onward whole formulas at p (q ∷ qs) set → shapeIn formulas at ≡ Conjunction x y
       → sign ≡ signOf (shapeIn formulas x) p → sign ≡ 0 → Chooses whole (record { made = false; set = 0 })
   unsigned-next {q} {y} {qs} o e k n = onward-fails o (choice-both formulas at p q qs e ∙ unsigned _ p (choiceIn formulas y q qs) (sym k ∙ n))
 
   -- the last atom is read off the whole formula
-  pub onward-last : (more : ℕ) {sign : ℕ} → Onward whole formulas at p [] set → sign ≡ signOf (shapeIn formulas at) p → sign ≢ 0
+  onward-last : (more : ℕ) {sign : ℕ} → Onward whole formulas at p [] set → sign ≡ signOf (shapeIn formulas at) p → sign ≢ 0
       → ((i : ℕ) → has more i ≡ (has set i || (eqb sign 1 && is i p))) → Chooses whole (record { made = true; set = more })
   onward-last more {sign} o k n m =
       let t = taken o more (some []) n (choice-last formulas at p ∙ ap (λ (s : ℕ). withSign s p (some [])) (sym k)) m .1 [] refl in
@@ -140,7 +140,7 @@ module _ {whole : Option Chosen} {formulas : List ℕ} {at p set : ℕ} where
         made = λ f. (t .0, t .1, λ i. (λ h. t .2 i .1 (inl h), λ h. ⊎-elim (λ l. l) (λ l. absurd (List·Memᴰ·not-nil l)) (t .2 i .0 h)));
       }
 
-  pub unsigned-last :
+  unsigned-last :
       {sign : ℕ} → Onward whole formulas at p [] set → sign ≡ signOf (shapeIn formulas at) p → sign ≡ 0
       → Chooses whole (record { made = false; set = 0 })
   unsigned-last o k n = onward-fails o (choice-last formulas at p ∙ unsigned _ p (some []) (sym k ∙ n))

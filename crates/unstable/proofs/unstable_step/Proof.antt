@@ -6,9 +6,8 @@ use borrow.Author.Tests.{not-true, not-false}
 use Rattle.atomset.specs.AtomSet.{members}
 use Rattle.sides.proofs.Sets.{same-iff}
 use Rattle.unstable.proofs.Steps.{more-there}
-use Rattle.unstable.proofs.Instances.{
-  atoms-word,
-  difference-word,
+use Rattle.unstable.proofs.Words.{atoms-word, difference-word}
+use Rattle.unstable.proofs.Tests.{
   lefts-differ,
   first-not-one,
   second-not-one,
