@@ -1,7 +1,7 @@
 /* Govelamuth: the judging of a whole derivation file, for C.
  *
  * Both calls are proved to answer, for any bytes, what the specification says: number 0 with the line of the claim if the text
- * is accepted, else a refusal number (1 to 13) with the line that it belongs to, 0 for numbers 1 and 2. If the number is 0, the
+ * is accepted, else the number of a refusal with the line that it belongs to, 0 for numbers 1 and 2. If the number is 0, the
  * text's claim does not fail.
  *
  * They need no initialisation, keep no pointer, touch nothing but what is lent, use no heap and no global state, and so are
@@ -14,8 +14,26 @@
 #include <stddef.h>
 #include <stdint.h>
 
+/* What a number means. */
+enum elk_number {
+    ELK_ACCEPTED = 0, /* none below */
+    ELK_SHORT_TABLE = 1, /* a lent table is too short */
+    ELK_TOO_LONG = 2, /* text over 65,536 bytes */
+    ELK_BAD_LINE = 3, /* no LF, unknown kind or word, wrong fields, number or list badly written */
+    ELK_OUT_OF_ORDER = 4, /* kind out of order, a line after C, or not the next number */
+    ELK_FULL = 5, /* a stored atom, formula, row or pool passes its most */
+    ELK_BAD_NAME = 6, /* wrong form, or used before */
+    ELK_NO_SUCH_ITEM = 7, /* a referred atom, formula or row is not earlier in the text */
+    ELK_FORMULA_AGAIN = 8, /* an equal formula exists */
+    ELK_BAD_SIDE = 9, /* not strictly rising, or over 64 */
+    ELK_WRONG_PREMISES = 10, /* wrong number or kind of premises, or principal present or absent against the rule */
+    ELK_WRONG_STEP = 11, /* no sets make the row an instance of its rule */
+    ELK_CLAIM_DIFFERS = 12, /* the last row is not an ELK row with exactly these sides, or there is no row */
+    ELK_NO_CLAIM = 13, /* the text ends with no C line */
+};
+
 struct elk_answer {
-    uint32_t number;
+    uint32_t number; /* of enum elk_number */
     uint32_t line;
 };
 

@@ -39,7 +39,7 @@ int main(void) {
         fputs("client: a table was written past its end\n", stderr);
         return 1;
     }
-    if (answer.number != 0
+    if (answer.number != ELK_ACCEPTED
         && !(all_zero(names, NAMES) && all_zero(formulas, FORMULAS) && all_zero(rows, ROWS) && all_zero(left, POOL) && all_zero(right, POOL))) {
         fputs("client: a refusal left numbers in a table\n", stderr);
         return 1;

@@ -17,7 +17,8 @@ use Rattle.format.specs.Text.{Bytes, linesOf, sameList}
 use Rattle.format.specs.File.{Node, Row, Claim, File, noFile, sequentOf, decoded}
 use Rattle.format.specs.Tables.{Lent}
 use Rattle.format.specs.Tests.{first, sameKind, lastIs}
-use Rattle.format.specs.Judged.{Outcome, next, refused, top, beginning, accepted, turnedDown, orNoClaim, finish, answerFrom, wholeTests, orWhole, judged, Said, ClaimFails}
+use Rattle.format.specs.Judged.{Outcome, next, refused, top, beginning, accepted, turnedDown}
+use Rattle.format.specs.Judged.{orNoClaim, finish, answerFrom, wholeTests, orWhole, judged, Said, ClaimFails}
 use Rattle.format.proofs.Booleans.{and-true, same-list}
 use Rattle.format.specs.Good.{derived, Good}
 use Rattle.format.proofs.GoodBodies.{derived-snoc, good-derivation}
@@ -75,10 +76,18 @@ last-row (r ∷ []) left right e =
     record { before = []; last = r; split = refl; kind = is-elk _ (lefts .0); left-side = same-list _ _ (lefts .1); right-side = same-list _ _ (rights .1) }
 last-row (r ∷ q ∷ qs) left right e =
     let rest = last-row (q ∷ qs) left right e in
-    record { before = r ∷ rest .before; last = rest .last; split = ap (λ (rs : List Row). r ∷ rs) (rest .split); kind = rest .kind; left-side = rest .left-side; right-side = rest .right-side }
+    record {
+      before = r ∷ rest .before;
+      last = rest .last;
+      split = ap (λ (rs : List Row). r ∷ rs) (rest .split);
+      kind = rest .kind;
+      left-side = rest .left-side;
+      right-side = rest .right-side;
+    }
 
 -- the rows of an accepted text, decoded, are a derivation that ends in its claim
-pub accepted-derives : {text : Bytes} {line : ℕ} (a : Accepted text line) → EndsIn (decoded (a .file .body .nodes) (a .claim .left)) (decoded (a .file .body .nodes) (a .claim .right))
+pub accepted-derives : {text : Bytes} {line : ℕ} (a : Accepted text line)
+    → EndsIn (decoded (a .file .body .nodes) (a .claim .left)) (decoded (a .file .body .nodes) (a .claim .right))
 accepted-derives {text} a =
     record {
       last = sequentOf nodes (l .last);
@@ -120,4 +129,7 @@ accepted-holds t text line e bad = entails-not-fails (ends-in-sound (accepted-de
     same-claim = let k : _≡_ {A = Option Claim} (some (own .0)) (some (a .claim)) = sym (own .1) ∙ a .is-claim in cc
 
     fails : Fails (decoded nodes (a .claim .left)) (decoded nodes (a .claim .right))
-    fails = subst (λ (c : Claim). Fails (decoded nodes (c .left)) (decoded nodes (c .right))) same-claim (subst₃ (λ (ns : List Node) (l r : List ℕ). Fails (decoded ns l) (decoded ns r)) (ap (λ (s : Said). s .nodes) (g .said)) (sym (own .2)) (sym (own .3)) (bad .fails))
+    fails =
+        let same-nodes = ap (λ (s : Said). s .nodes) (g .said) in
+        subst (λ (c : Claim). Fails (decoded nodes (c .left)) (decoded nodes (c .right))) same-claim
+        (subst₃ (λ (ns : List Node) (l r : List ℕ). Fails (decoded ns l) (decoded ns r)) same-nodes (sym (own .2)) (sym (own .3)) (bad .fails))

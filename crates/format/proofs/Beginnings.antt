@@ -1,6 +1,5 @@
 -- What every accepted beginning is: its body and its names are good, and its formulas and claim are those that its lines write.
-use Prim.Native.Nat.{ℕ, zero, suc, _+_, _≤_, _<_}
-use native.Mathlib.Decide.{decLt}
+use Prim.Native.Nat.{ℕ, _+_, _≤_, _<_}
 use native.Mathlib.Omega.{arith}
 use mathlib.Core.Path.{_≡_, refl, sym, ap, ap₂, subst, _∙_}
 use mathlib.Core.Bool.{Bool, true, false, not, cond, true≢false}
@@ -9,7 +8,6 @@ use mathlib.Core.List.{
   [],
   _∷_,
   _++_,
-  map,
   map-append,
   append-nil,
   append-assoc,
@@ -20,12 +18,11 @@ use mathlib.Core.List.{
 }
 use mathlib.Core.Logic.{_⊎_, inl, inr, ⊎-elim}
 use mathlib.Core.Option.{Option, none, some}
-use lib.ListN.{length, getD, length-append, length-map, List·getD-append}
-use lib.Seq.{getD-at}
+use lib.ListN.{length, length-append, length-map}
 use borrow.Author.Tests.{leb-false}
 use Rattle.equilibrium.specs.Meaning.{_∈_}
 use Rattle.format.specs.Text.{Bytes, isName, any, sameList}
-use Rattle.format.specs.File.{Node, Row, Name, Claim, Body, in-atoms, in-formulas, in-rows, claimed, File, noFile, addRow}
+use Rattle.format.specs.File.{Node, Row, Name, Claim, Body, in-atoms, in-formulas, in-rows, claimed, File, noFile}
 use Rattle.format.specs.Line.{Line, atomLine, formulaLine, rowLine, claimLine, lineOf}
 use Rattle.format.specs.Tables.{mostAtoms}
 use Rattle.format.specs.Tests.{Test, _when_, first, rank, outOfOrder, lastIs, atomTests, nodeTests, formulaTests, bodyTests, rowTests, claimTests}
@@ -52,9 +49,9 @@ use Rattle.format.specs.Judged.{
   saidBy,
 }
 use Rattle.format.specs.Good.{bare, GoodBody, atoms, formula, row, spellings, GoodNames, Good}
-use Rattle.format.proofs.Booleans.{or-false, not-false, any-false, list-same}
+use Rattle.format.proofs.Booleans.{or-false, not-false, list-same}
 use Rattle.format.proofs.Tested.{passes, follows, in-order}
-use Rattle.format.proofs.GoodBodies.{in-getD}
+use Rattle.format.proofs.GoodBodies.{Distinct, distinct-snoc}
 
 settled-next : (o : Option ℕ) (p : Place) (f t : File) → settled o p f ≡ next t → (o ≡ none) × (f ≡ t)
 settled-next none p f t e = (refl, cc)
@@ -96,12 +93,13 @@ only-atoms b n r = ap₂ (λ (nodes : List Node) (rows : List Row). record { ato
 
 -- one more name, of 01's form and not used before
 module _ {atoms : ℕ} {names : List Name} (start : ℕ) (name : Bytes) (g : GoodNames atoms names) where
-  names-with : isName name ≡ true → any (λ (m : Name). sameList (m .name) name) names ≡ false → GoodNames (atoms + 1) (names ++ record { start = start; name = name } ∷ [])
+  names-with : isName name ≡ true → any (λ (m : Name). sameList (m .name) name) names ≡ false
+      → GoodNames (atoms + 1) (names ++ record { start = start; name = name } ∷ [])
   names-with form new =
       record {
         count = omega (arith, length-append names (record { start = start; name = name } ∷ []), g .count);
-        form = λ n m. ⊎-elim (g .form n) (λ k. subst (λ (x : Bytes). isName x ≡ true) (sym (List·Memᴰ·eq-of-singleton k)) form) (List·Memᴰ·append-cases old (subst (λ (xs : List Bytes). n ∈ xs) spelled m));
-        distinct = λ i j h k e. apart i j (at-end i h) (at-end j k) (sym (ap (λ (xs : List Bytes). getD xs i []) spelled) ∙ e ∙ ap (λ (xs : List Bytes). getD xs j []) spelled);
+        form = λ n m. all-form n (List·Memᴰ·append-cases old (subst (λ (xs : List Bytes). n ∈ xs) spelled m));
+        distinct = λ i j h k. all-apart i j (omega (arith, all)) (omega (arith, all));
       }
     where
       old : List Bytes
@@ -113,47 +111,41 @@ module _ {atoms : ℕ} {names : List Name} (start : ℕ) (name : Bytes) (g : Goo
       as-many : length old ≡ atoms
       as-many = length-map names (λ (n : Name). n .name) ∙ g .count
 
-      at-end : (i : ℕ) → i < atoms + 1 → (i < atoms) ⊎ (i ≡ atoms)
-      at-end i h = cases (decLt i (atoms))
-        where
-          cases : Dec (i < atoms) → (i < atoms) ⊎ (i ≡ atoms)
-          cases (yes l) = inl l
-          cases (no n) = inr (omega arith)
-
-      before : (i : ℕ) → i < atoms → getD (old ++ name ∷ []) i [] ≡ getD old i []
-      before i l = List·getD-append old (name ∷ []) [] i (omega (arith, as-many))
-
-      own : (i : ℕ) → i ≡ atoms → getD (old ++ name ∷ []) i [] ≡ name
-      own i e = getD-at old name [] [] i (as-many ∙ sym e)
-
       unused : (ns : List Name) → any (λ (m : Name). sameList (m .name) name) ns ≡ false → name ∈ spellings ns → ⊥
       unused [] e m = List·Memᴰ·not-nil m
       unused (n ∷ ns) e m =
           let parts = or-false (sameList (n .name) name) _ e in
-          ⊎-elim (λ (k : name ≡ n .name). true≢false (sym (list-same name) ∙ ap (λ (x : Bytes). sameList x name) k ∙ parts .0)) (unused ns (parts .1)) (List·Memᴰ·cases-cons m)
+          ⊎-elim (λ (k : name ≡ n .name). true≢false (sym (list-same name) ∙ ap (λ (x : Bytes). sameList x name) k ∙ parts .0)) (unused ns (parts .1))
+          (List·Memᴰ·cases-cons m)
 
-      fresh : (i : ℕ) → i < atoms → getD old i [] ≡ name → ⊥
-      fresh i l e = unused names new (subst (λ (x : Bytes). x ∈ old) e (in-getD old i [] (omega (arith, as-many))))
+      all-form : (n : Bytes) → (n ∈ old) ⊎ (n ∈ name ∷ []) → isName n ≡ true
+      all-form n (inl m) = g .form n m
+      all-form n (inr m) = subst (λ (x : Bytes). isName x ≡ true) (sym (List·Memᴰ·eq-of-singleton m)) form
 
-      apart :
-          (i j : ℕ) → (i < atoms) ⊎ (i ≡ atoms) → (j < atoms) ⊎ (j ≡ atoms)
-          → getD (old ++ name ∷ []) i [] ≡ getD (old ++ name ∷ []) j [] → i ≡ j
-      apart i j (inl l) (inl m) e = g .distinct i j l m (sym (before i l) ∙ e ∙ before j m)
-      apart i j (inl l) (inr m) e = absurd (fresh i l (sym (before i l) ∙ e ∙ own j m))
-      apart i j (inr l) (inl m) e = absurd (fresh j m (sym (before j m) ∙ sym e ∙ own i l))
-      apart i j (inr l) (inr m) e = l ∙ sym m
+      apart : Distinct [] old
+      apart i j h k = g .distinct i j (omega (arith, as-many)) (omega (arith, as-many))
+
+      all-apart : Distinct [] (spellings (names ++ record { start = start; name = name } ∷ []))
+      all-apart = subst (Distinct []) (sym spelled) (distinct-snoc [] old name apart (unused names new))
+
+      all : length (spellings (names ++ record { start = start; name = name } ∷ [])) ≡ atoms + 1
+      all = ap length spelled ∙ length-append old (name ∷ []) ∙ omega (arith, as-many)
 
 module _ {done : List Bytes} {f : File} (line : Bytes) (g : Good done f) where
-  atom-good : (n at : ℕ) (name : Bytes) → lineOf line ≡ some (atomLine n name) → first (atomTests f n name) ≡ none → Good (done ++ line ∷ []) (withAtom f at name)
+  atom-good : (n at : ℕ) (name : Bytes) → lineOf line ≡ some (atomLine n name) → first (atomTests f n name) ≡ none
+      → Good (done ++ line ∷ []) (withAtom f at name)
   atom-good n at name e through =
       record {
-        body = subst GoodBody (sym (only-atoms (withAtom f at name .body) nodes rows)) (atoms (f .body .atoms + 1) (omega (arith, leb-false mostAtoms (f .body .atoms) (passes 5 (atomTests f n name) through))));
+        body = subst GoodBody (sym (only-atoms (withAtom f at name .body) nodes rows)) (atoms (f .body .atoms + 1) (omega (arith, room)));
         names = names-with at name (g .names) (not-false _ (six .0)) (six .1);
         no-nodes = λ h. nodes;
         no-rows = λ h. rows;
         no-claim = λ h. claim;
         claim-made = λ h. absurd (omega arith);
-        said = said-with line _ g e ∙ ap (λ (xs : List Bytes). record { names = xs; nodes = f .body .nodes }) (sym (map-append (λ (m : Name). m .name) (f .names) (record { start = at; name = name } ∷ [])));
+        said =
+            said-with line _ g e
+            ∙ ap (λ (xs : List Bytes). record { names = xs; nodes = f .body .nodes })
+            (sym (map-append (λ (m : Name). m .name) (f .names) (record { start = at; name = name } ∷ [])));
         claims-read = claims-kept line (withAtom f at name) g refl (λ l r k. let z : _≡_ {A = ℕ} 0 1 = cc in omega arith);
         claim-last = g .claim-last;
       }
@@ -170,13 +162,18 @@ module _ {done : List Bytes} {f : File} (line : Bytes) (g : Good done f) where
       claim : f .claim ≡ none
       claim = g .no-claim (omega (arith, order .0))
 
+      room : f .body .atoms < mostAtoms
+      room = leb-false mostAtoms (f .body .atoms) (passes 5 (atomTests f n name) through)
+
       six : (not (isName name) ≡ false) × (any (λ (m : Name). sameList (m .name) name) (f .names) ≡ false)
       six = or-false _ _ (passes 6 (atomTests f n name) through)
 
-  formula-good : (n : ℕ) (node : Node) → lineOf line ≡ some (formulaLine n node) → first (formulaTests f n node) ≡ none → Good (done ++ line ∷ []) (withNode f node)
+  formula-good : (n : ℕ) (node : Node) → lineOf line ≡ some (formulaLine n node) → first (formulaTests f n node) ≡ none
+      → Good (done ++ line ∷ []) (withNode f node)
   formula-good n node e through =
       record {
-        body = formula (g .body) rows node (later-none (4 when outOfOrder (f .stage) in-formulas (length (f .body .nodes)) n) (nodeTests (f .body) node) through);
+        body =
+            formula (g .body) rows node (later-none (4 when outOfOrder (f .stage) in-formulas (length (f .body .nodes)) n) (nodeTests (f .body) node) through);
         names = g .names;
         no-nodes = λ h. absurd (omega arith);
         no-rows = λ h. rows;
@@ -216,7 +213,8 @@ module _ {done : List Bytes} {f : File} (line : Bytes) (g : Good done f) where
       claim : f .claim ≡ none
       claim = g .no-claim (order .0)
 
-  claim-good : (at : ℕ) (left right : List ℕ) → lineOf line ≡ some (claimLine left right) → first (claimTests f left right) ≡ none → Good (done ++ line ∷ []) (withClaim f (record { line = at; left = left; right = right }))
+  claim-good : (at : ℕ) (left right : List ℕ) → lineOf line ≡ some (claimLine left right) → first (claimTests f left right) ≡ none
+      → Good (done ++ line ∷ []) (withClaim f (record { line = at; left = left; right = right }))
   claim-good at left right e through =
       record {
         body = g .body;
@@ -233,14 +231,23 @@ module _ {done : List Bytes} {f : File} (line : Bytes) (g : Good done f) where
       claim : f .claim ≡ none
       claim = g .no-claim (omega (arith, follows (f .stage) claimed (not-false _ (passes 4 (claimTests f left right) through)) .1))
 
-      claims : (m : Bytes) (l r : List ℕ) → m ∈ done ++ line ∷ [] → lineOf m ≡ some (claimLine l r) → (c : Claim) × (withClaim f (record { line = at; left = left; right = right }) .claim ≡ some c) × (c .left ≡ l) × (c .right ≡ r)
+      claims : (m : Bytes) (l r : List ℕ) → m ∈ done ++ line ∷ [] → lineOf m ≡ some (claimLine l r)
+          → (c : Claim) × (withClaim f (record { line = at; left = left; right = right }) .claim ≡ some c) × (c .left ≡ l) × (c .right ≡ r)
       claims m l r i k = ⊎-elim (λ j. absurd (earlier j)) here (List·Memᴰ·append-cases done i)
         where
           earlier : m ∈ done → ⊥
-          earlier j = let c = g .claims-read m l r j k in let none-some : _≡_ {A = Option Claim} none (some (c .0)) = sym claim ∙ c .1 in let z : _≡_ {A = ℕ} 0 1 = cc in omega arith
+          earlier j =
+              let c = g .claims-read m l r j k in
+              let none-some : _≡_ {A = Option Claim} none (some (c .0)) = sym claim ∙ c .1 in
+              let z : _≡_ {A = ℕ} 0 1 = cc in
+              omega arith
 
-          here : m ∈ line ∷ [] → (c : Claim) × (_≡_ {A = Option Claim} (some (record { line = at; left = left; right = right })) (some c)) × (c .left ≡ l) × (c .right ≡ r)
-          here j = let same : _≡_ {A = Option Line} (some (claimLine left right)) (some (claimLine l r)) = sym e ∙ sym (ap lineOf (List·Memᴰ·eq-of-singleton j)) ∙ k in (record { line = at; left = left; right = right }, refl, cc, cc)
+          here : m ∈ line ∷ []
+              → (c : Claim) × (_≡_ {A = Option Claim} (some (record { line = at; left = left; right = right })) (some c)) × (c .left ≡ l) × (c .right ≡ r)
+          here j =
+              let read = ap lineOf (List·Memᴰ·eq-of-singleton j) in
+              let same : _≡_ {A = Option Line} (some (claimLine left right)) (some (claimLine l r)) = sym e ∙ sym read ∙ k in
+              (record { line = at; left = left; right = right }, refl, cc, cc)
 
       last : (c : Claim) → record { line = at; left = left; right = right } ≡ c → lastIs (f .body .rows) (c .left) (c .right) ≡ true
       last c k = subst (λ (d : Claim). lastIs (f .body .rows) (d .left) (d .right) ≡ true) k (not-false _ (passes 12 (claimTests f left right) through))
@@ -267,7 +274,8 @@ run-good {done} {f} {t} p [] g e = subst (Good (done ++ [])) same (subst (λ (ls
     same = cc
 run-good {done} {f} {t} p (l ∷ ls) g e = further (step f p l) refl e (λ u. run-good {done = done ++ l ∷ []} {f = u} (below p l) ls)
   where
-    further : (o : Outcome File) → step f p l ≡ o → after o (run step (below p l) ls) ≡ next t → ((u : File) → Good (done ++ l ∷ []) u → run step (below p l) ls u ≡ next t → Good ((done ++ l ∷ []) ++ ls) t) → Good (done ++ l ∷ ls) t
+    further : (o : Outcome File) → step f p l ≡ o → after o (run step (below p l) ls) ≡ next t
+        → ((u : File) → Good (done ++ l ∷ []) u → run step (below p l) ls u ≡ next t → Good ((done ++ l ∷ []) ++ ls) t) → Good (done ++ l ∷ ls) t
     further (next u) q k rest = subst (λ (ms : List Bytes). Good ms t) (append-assoc done (l ∷ []) ls) (rest u (step-good p l g q) k)
     further (refused n m) q k rest = let z : _≡_ {A = ℕ} 0 1 = cc in absurd (omega arith)
 

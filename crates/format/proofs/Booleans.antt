@@ -1,8 +1,8 @@
--- What a test that came out says of its parts.
+-- What a test that came out says of its parts, and what is enough for it to come out.
 use Prim.Native.Nat.{ℕ}
 use mathlib.Core.Path.{_≡_, refl, sym, subst}
 use mathlib.Core.Bool.{Bool, true, false, not, _||_, _&&_, true≢false, false≢true}
-use mathlib.Core.List.{List, [], _∷_, List·Memᴰ·not-nil, List·Memᴰ·cases-cons}
+use mathlib.Core.List.{List, [], _∷_, List·Memᴰ·head, List·Memᴰ·tail, List·Memᴰ·not-nil, List·Memᴰ·cases-cons}
 use mathlib.Core.Logic.{⊎-elim}
 use lib.Dec.{eqb}
 use borrow.Author.Tests.{eqb-true, eq-eqb}
@@ -34,6 +34,14 @@ module _ {X : Type 0} (test : X → Bool) where
   any-false (y ∷ ys) e x m =
       let parts = or-false (test y) (any test ys) e in
       ⊎-elim (λ (k : x ≡ y). subst (λ (z : X). test z ≡ false) (sym k) (parts .0)) (λ k. any-false ys (parts .1) x k) (List·Memᴰ·cases-cons m)
+
+  pub any-none : (xs : List X) → ((x : X) → x ∈ xs → test x ≡ true → ⊥) → any test xs ≡ false
+  any-none [] h = refl
+  any-none (x ∷ xs) h = by-test (test x) refl (any-none xs (λ y m. h y (List·Memᴰ·tail m)))
+    where
+      by-test : (t : Bool) → test x ≡ t → any test xs ≡ false → (t || any test xs) ≡ false
+      by-test true e rest = absurd (h x (List·Memᴰ·head refl) e)
+      by-test false e rest = rest
 
 pub same-list : (xs ys : List ℕ) → sameList xs ys ≡ true → xs ≡ ys
 unfolding sameList

@@ -15,7 +15,8 @@ use Rattle.format.proofs.Formulas.{known-earlier, equal-numbers}
 -- a formula of a decoded side is that of a number of the side
 pub in-decoded : (b : Body) (side : List ℕ) (F : Formula) → F ∈ decoded (b .nodes) side → (i : ℕ) × (i ∈ side) × (F ≡ decodedAt (b .nodes) i)
 in-decoded b [] F m = absurd (List·Memᴰ·not-nil m)
-in-decoded b (i ∷ is) F m = ⊎-elim (λ e. (i, List·Memᴰ·head refl, e)) (λ k. let r = in-decoded b is F k in (r .0, List·Memᴰ·tail (r .1), r .2)) (List·Memᴰ·cases-cons m)
+in-decoded b (i ∷ is) F m =
+    ⊎-elim (λ e. (i, List·Memᴰ·head refl, e)) (λ k. let r = in-decoded b is F k in (r .0, List·Memᴰ·tail (r .1), r .2)) (List·Memᴰ·cases-cons m)
 
 pub decoded-in : (b : Body) (side : List ℕ) (i : ℕ) → i ∈ side → decodedAt (b .nodes) i ∈ decoded (b .nodes) side
 decoded-in b side i m = Memᴰ·map (decodedAt (b .nodes)) m

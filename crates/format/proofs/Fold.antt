@@ -11,7 +11,9 @@ placeAfter p [] = p
 placeAfter p (l ∷ ls) = placeAfter (below p l) ls
 
 module _ {S : Type 0} (step : S → Place → Bytes → Outcome S) where
-  after-run : (o : Outcome S) (p : Place) (ms ns : List Bytes) → ((s : S) → run step p (ms ++ ns) s ≡ after (run step p ms s) (run step (placeAfter p ms) ns)) → after o (run step p (ms ++ ns)) ≡ after (after o (run step p ms)) (run step (placeAfter p ms) ns)
+  after-run : (o : Outcome S) (p : Place) (ms ns : List Bytes)
+      → ((s : S) → run step p (ms ++ ns) s ≡ after (run step p ms s) (run step (placeAfter p ms) ns))
+      → after o (run step p (ms ++ ns)) ≡ after (after o (run step p ms)) (run step (placeAfter p ms) ns)
   after-run (next s) p ms ns rest = rest s
   after-run (refused n l) p ms ns rest = refl
 

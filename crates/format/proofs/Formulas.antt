@@ -4,7 +4,8 @@ use Prim.Native.Nat.{ℕ, zero, suc, _+_, _≤_, _<_}
 use native.Mathlib.Omega.{arith}
 use mathlib.Core.Path.{_≡_, refl, sym, ap, ap₂, _∙_}
 use mathlib.Core.Bool.{false}
-use mathlib.Core.List.{List, [], _∷_, _++_, append-assoc, List·Memᴰ·head, List·Memᴰ·tail}
+use mathlib.Core.List.{List, [], _∷_, _++_, append-assoc, List·Memᴰ·head, List·Memᴰ·tail, List·Memᴰ·not-nil, List·Memᴰ·cases-cons}
+use mathlib.Core.Logic.{_⊎_, inl, inr}
 use lib.ListN.{length, take, drop, length-append, List·getD-append}
 use lib.Seq.{getD-at, split-at, length-take-le}
 use borrow.Author.Tests.{leb-false}
@@ -85,7 +86,9 @@ formula-same (Node.imp i j) ts us e = ap₂ imp (e i (List·Memᴰ·head refl)) 
 
 -- in a held body, the formula of a number is that of its node over the formulas of all numbers
 pub decoded-node : {b : Body} → Held b → (i : ℕ) → i < length (b .nodes) → decodedAt (b .nodes) i ≡ formulaOf (formulas (b .nodes)) (nodeAt b i)
-decoded-node {b} held i h = over ∙ sym (formula-same n (formulas (b .nodes)) (formulas before) (λ o m. known o (operands-earlier (beforeNode b i) n (held .earlier i h) o m)))
+decoded-node {b} held i h =
+    over
+    ∙ sym (formula-same n (formulas (b .nodes)) (formulas before) (λ o m. known o (operands-earlier (beforeNode b i) n (held .earlier i h) o m)))
   where
     before : List Node
     before = take i (b .nodes)
@@ -103,7 +106,7 @@ decoded-node {b} held i h = over ∙ sym (formula-same n (formulas (b .nodes)) (
     known o k = ap (λ (ns : List Node). decodedAt ns o) split ∙ formulas-prefix before (n ∷ drop (suc i) (b .nodes)) o k
 
 -- the node that names these formulas, where each has a number
-abbrev nodeFrom : (Formula → ℕ) → Formula → Node
+abbrev pub nodeFrom : (Formula → ℕ) → Formula → Node
 nodeFrom number falsum = Node.bot
 nodeFrom number (Formula.atom k) = Node.atom k
 nodeFrom number (neg A) = Node.not (number A)
@@ -111,7 +114,8 @@ nodeFrom number (conj A B) = Node.and (number A) (number B)
 nodeFrom number (disj A B) = Node.or (number A) (number B)
 nodeFrom number (imp A B) = Node.imp (number A) (number B)
 
-node-back : (number : Formula → ℕ) (ts : List Formula) (n : Node) → ((i : ℕ) → i ∈ operands n → number (formulaAt ts i) ≡ i) → nodeFrom number (formulaOf ts n) ≡ n
+node-back : (number : Formula → ℕ) (ts : List Formula) (n : Node) → ((i : ℕ) → i ∈ operands n → number (formulaAt ts i) ≡ i)
+    → nodeFrom number (formulaOf ts n) ≡ n
 node-back number ts Node.bot e = refl
 node-back number ts (Node.atom k) e = refl
 node-back number ts (Node.not i) e = ap Node.not (e i (List·Memᴰ·head refl))
@@ -124,11 +128,12 @@ atOr (yes h) k = 0
 atOr (no n) k = suc k
 
 -- the first place of a formula
-position : List Formula → Formula → ℕ
+pub position : List Formula → Formula → ℕ
 position [] A = 0
 position (B ∷ Bs) A = atOr (formula-discrete A B) (position Bs A)
 
-position-first : (ts : List Formula) (i : ℕ) → i < length ts → (position ts (formulaAt ts i) ≤ i) × (formulaAt ts (position ts (formulaAt ts i)) ≡ formulaAt ts i)
+position-first : (ts : List Formula) (i : ℕ) → i < length ts
+    → (position ts (formulaAt ts i) ≤ i) × (formulaAt ts (position ts (formulaAt ts i)) ≡ formulaAt ts i)
 unfolding position
 position-first [] i h = absurd (omega arith)
 position-first (B ∷ Bs) zero h = found (formula-discrete B B)
@@ -141,17 +146,33 @@ position-first (B ∷ Bs) (suc i) h = cases (formula-discrete (formulaAt Bs i) B
     A : Formula
     A = formulaAt Bs i
 
-    cases : (d : Dec (A ≡ B)) → (position Bs A ≤ i) × (formulaAt Bs (position Bs A) ≡ A) → (atOr d (position Bs A) ≤ suc i) × (formulaAt (B ∷ Bs) (atOr d (position Bs A)) ≡ A)
+    cases : (d : Dec (A ≡ B)) → (position Bs A ≤ i) × (formulaAt Bs (position Bs A) ≡ A)
+        → (atOr d (position Bs A) ≤ suc i) × (formulaAt (B ∷ Bs) (atOr d (position Bs A)) ≡ A)
     cases (yes e) rest = (omega arith, sym e)
     cases (no n) rest = (omega (arith, rest .0), rest .1)
+
+-- a formula's place is found among those before which it stands
+pub position-among : (ts us : List Formula) (A : Formula) → A ∈ ts → (position (ts ++ us) A < length ts) × (formulaAt ts (position (ts ++ us) A) ≡ A)
+unfolding position
+position-among [] us A m = absurd (List·Memᴰ·not-nil m)
+position-among (B ∷ Bs) us A m = cases (formula-discrete A B) (λ k. position-among Bs us A k) (List·Memᴰ·cases-cons m)
+  where
+    cases : (d : Dec (A ≡ B)) → (A ∈ Bs → (position (Bs ++ us) A < length Bs) × (formulaAt Bs (position (Bs ++ us) A) ≡ A)) → (A ≡ B) ⊎ (A ∈ Bs)
+        → (atOr d (position (Bs ++ us) A) < length (B ∷ Bs)) × (formulaAt (B ∷ Bs) (atOr d (position (Bs ++ us) A)) ≡ A)
+    cases (yes e) rest k = (omega arith, sym e)
+    cases (no n) rest (inl e) = absurd (n e)
+    cases (no n) rest (inr k) = (omega (arith, rest k .0), rest k .1)
 
 module _ (b : Body) (held : Held b) where
   all-formulas : List Formula
   all-formulas = formulas (b .nodes)
 
-  node-from-own : (j : ℕ) → j < length (b .nodes) → ((o : ℕ) → o < j → position all-formulas (formulaAt all-formulas o) ≡ o) → nodeFrom (position all-formulas) (formulaAt all-formulas j) ≡ nodeAt b j
+  node-from-own : (j : ℕ) → j < length (b .nodes) → ((o : ℕ) → o < j → position all-formulas (formulaAt all-formulas o) ≡ o)
+      → nodeFrom (position all-formulas) (formulaAt all-formulas j) ≡ nodeAt b j
   unfolding all-formulas
-  node-from-own j h own = ap (nodeFrom (position all-formulas)) (decoded-node held j h) ∙ node-back (position all-formulas) all-formulas (nodeAt b j) (λ o m. own o (before o m))
+  node-from-own j h own =
+      ap (nodeFrom (position all-formulas)) (decoded-node held j h)
+      ∙ node-back (position all-formulas) all-formulas (nodeAt b j) (λ o m. own o (before o m))
     where
       before : (o : ℕ) → o ∈ operands (nodeAt b j) → o < j
       before o m = omega (arith, operands-earlier (beforeNode b j) (nodeAt b j) (held .earlier j h) o m, length-take-le j (b .nodes) (omega arith))
@@ -168,7 +189,9 @@ module _ (b : Body) (held : Held b) where
       first = position-first all-formulas i (rw length-formulas k)
 
       own : ((o : ℕ) → o < n → o < length (b .nodes) → position all-formulas (formulaAt all-formulas o) ≡ o) → place ≡ i
-      own earlier = held .distinct place i (omega (arith, first .0)) k (sym (back place (first .0)) ∙ ap (nodeFrom (position all-formulas)) (first .1) ∙ back i (omega arith))
+      own earlier =
+          held .distinct place i (omega (arith, first .0)) k
+          (sym (back place (first .0)) ∙ ap (nodeFrom (position all-formulas)) (first .1) ∙ back i (omega arith))
         where
           back : (j : ℕ) → j ≤ i → nodeFrom (position all-formulas) (formulaAt all-formulas j) ≡ nodeAt b j
           back j l = node-from-own j (omega arith) (λ o m. earlier o (omega arith) (omega arith))

@@ -4,7 +4,7 @@ use Prim.Native.Nat.{ℕ, zero, suc, _+_, _≤_, _<_}
 use native.Mathlib.Decide.{decLt}
 use native.Mathlib.Omega.{arith}
 use mathlib.Core.Path.{_≡_, refl, sym, ap, ap₂, subst, _∙_}
-use mathlib.Core.Bool.{Bool, true, false, true≢false}
+use mathlib.Core.Bool.{Bool, false, true≢false}
 use mathlib.Core.List.{
   List,
   [],
@@ -40,6 +40,63 @@ use Rattle.format.proofs.Booleans.{any-false, list-same}
 use Rattle.format.proofs.Tested.{passes, PassedRow, passed-row}
 use Rattle.format.proofs.RowPasses.{instance-of}
 
+-- ---- items and their places
+
+pub in-getD : {X : Type 0} (xs : List X) (i : ℕ) (d : X) → i < length xs → getD xs i d ∈ xs
+in-getD [] i d h = absurd (omega arith)
+in-getD (x ∷ xs) zero d h = List·Memᴰ·head refl
+in-getD (x ∷ xs) (suc i) d h = List·Memᴰ·tail (in-getD xs i d (omega arith))
+
+pub in-place : {X : Type 0} {x : X} (xs : List X) (d : X) → x ∈ xs → (i : ℕ) × (i < length xs) × (getD xs i d ≡ x)
+in-place [] d m = absurd (List·Memᴰ·not-nil m)
+in-place {x} (y ∷ ys) d m =
+    ⊎-elim (λ (e : x ≡ y). (0, omega arith, sym e)) (λ k. let at = in-place ys d k in (suc (at .0), omega (arith, at .1), at .2)) (List·Memᴰ·cases-cons m)
+
+-- the last of n + 1, or one before it
+pub at-end : (n i : ℕ) → i < suc n → (i < n) ⊎ (i ≡ n)
+at-end n i h = cases (decLt i n)
+  where
+    cases : Dec (i < n) → (i < n) ⊎ (i ≡ n)
+    cases (yes l) = inl l
+    cases (no k) = inr (omega arith)
+
+-- no two places hold the same
+abbrev pub Distinct : {X : Type 0} → X → List X → Type 0
+Distinct d xs = (i j : ℕ) → i < length xs → j < length xs → getD xs i d ≡ getD xs j d → i ≡ j
+
+module _ {X : Type 0} (d : X) (xs : List X) (x : X) where
+  -- an item has none like it before it
+  pub distinct-apart : (ys : List X) → Distinct d (xs ++ x ∷ ys) → x ∈ xs → ⊥
+  distinct-apart ys apart m =
+      let at = in-place xs d m in
+      let same = List·getD-append xs (x ∷ ys) d (at .0) (at .1) ∙ at .2 ∙ sym (getD-at xs x ys d (length xs) refl) in
+      let all = length-append xs (x ∷ ys) in
+      omega (arith, at .1, apart (at .0) (length xs) (omega (arith, at .1)) (omega arith) same)
+
+  -- one more that is not there yet
+  pub distinct-snoc : Distinct d xs → (x ∈ xs → ⊥) → Distinct d (xs ++ x ∷ [])
+  distinct-snoc apart new i j h k e = cases (at-end (length xs) i (omega (arith, all))) (at-end (length xs) j (omega (arith, all)))
+    where
+      all : length (xs ++ x ∷ []) ≡ length xs + 1
+      all = length-append xs (x ∷ [])
+
+      old : (n : ℕ) → n < length xs → getD (xs ++ x ∷ []) n d ≡ getD xs n d
+      old n l = List·getD-append xs (x ∷ []) d n l
+
+      own : (n : ℕ) → n ≡ length xs → getD (xs ++ x ∷ []) n d ≡ x
+      own n q = getD-at xs x [] d n (sym q)
+
+      fresh : (n : ℕ) → n < length xs → getD xs n d ≡ x → ⊥
+      fresh n l q = new (Memᴰ·cast (sym q) (in-getD xs n d l))
+
+      cases : (i < length xs) ⊎ (i ≡ length xs) → (j < length xs) ⊎ (j ≡ length xs) → i ≡ j
+      cases (inl l) (inl m) = apart i j l m (sym (old i l) ∙ e ∙ old j m)
+      cases (inl l) (inr m) = absurd (fresh i l (sym (old i l) ∙ e ∙ own j m))
+      cases (inr l) (inl m) = absurd (fresh j m (sym (old j m) ∙ sym e ∙ own i l))
+      cases (inr l) (inr m) = l ∙ sym m
+
+-- ---- what is held
+
 -- the body before its node i, when there were no rows
 abbrev pub beforeNode : Body → ℕ → Body
 beforeNode b i = record { atoms = b .atoms; nodes = take i (b .nodes); rows = [] }
@@ -74,13 +131,8 @@ in-reverse {x} (y ∷ ys) acc m = ⊎-elim (λ (e : x ≡ y). in-aux ys (y ∷ a
 pub derived-snoc : (nodes : List Node) (rows : List Row) (r : Row) → derived nodes (rows ++ r ∷ []) ≡ sequentOf nodes r ∷ derived nodes rows
 derived-snoc nodes rows r = ap reverse (map-append (sequentOf nodes) rows (r ∷ [])) ∙ reverse-append (map (sequentOf nodes) rows) (sequentOf nodes r ∷ [])
 
-pub in-getD : {X : Type 0} (xs : List X) (i : ℕ) (d : X) → i < length xs → getD xs i d ∈ xs
-in-getD [] i d h = absurd (omega arith)
-in-getD (x ∷ xs) zero d h = List·Memᴰ·head refl
-in-getD (x ∷ xs) (suc i) d h = List·Memᴰ·tail (in-getD xs i d (omega arith))
-
 -- the entries of one more row
-joined-snoc : {A : Type 0} (f : A → List ℕ) (xs : List A) (x : A) → length (joinAll f (xs ++ x ∷ [])) ≡ length (joinAll f xs) + length (f x)
+pub joined-snoc : {A : Type 0} (f : A → List ℕ) (xs : List A) (x : A) → length (joinAll f (xs ++ x ∷ [])) ≡ length (joinAll f xs) + length (f x)
 joined-snoc f [] x = omega (arith, length-append (f x) [])
 joined-snoc f (y ∷ ys) x =
     omega (arith, joined-snoc f ys x, length-append (f y) (joinAll f (ys ++ x ∷ [])), length-append (f y) (joinAll f ys))
@@ -90,13 +142,6 @@ none-in {x} e m = List·Memᴰ·not-nil (subst (λ ys. x ∈ ys) e m)
 
 -- one more node that refers to earlier numbers and is not there yet
 module _ (b : Body) (node : Node) (held : Held b) (rows : b .rows ≡ []) (ok : first (nodeTests b node) ≡ none) where
-  at-end : (i : ℕ) → i < length (b .nodes ++ node ∷ []) → (i < length (b .nodes)) ⊎ (i ≡ length (b .nodes))
-  at-end i h = cases (decLt i (length (b .nodes)))
-    where
-      cases : Dec (i < length (b .nodes)) → (i < length (b .nodes)) ⊎ (i ≡ length (b .nodes))
-      cases (yes l) = inl l
-      cases (no n) = inr (omega (arith, length-append (b .nodes) (node ∷ [])))
-
   old : (i : ℕ) → i < length (b .nodes) → nodeAt (addNode b node) i ≡ nodeAt b i
   old i l = List·getD-append (b .nodes) (node ∷ []) Node.bot i l
 
@@ -114,19 +159,10 @@ module _ (b : Body) (node : Node) (held : Held b) (rows : b .rows ≡ []) (ok : 
       ∙ ap (λ (rs : List Row). refersAhead (record { atoms = b .atoms; nodes = b .nodes; rows = rs }) node) (sym rows)
       ∙ passes 7 (nodeTests b node) ok
 
-  fresh : (i : ℕ) → i < length (b .nodes) → nodeAt b i ≡ node → ⊥
-  fresh i l e =
+  new : node ∈ b .nodes → ⊥
+  new m =
       true≢false (
-      sym (list-same (nodeRecord node)) ∙ ap (λ (m : Node). sameNode m node) (sym e)
-      ∙ any-false (λ m. sameNode m node) (b .nodes) (passes 8 (nodeTests b node) ok) (nodeAt b i) (in-getD (b .nodes) i Node.bot l))
-
-  node-distinct :
-      (i j : ℕ) → (i < length (b .nodes)) ⊎ (i ≡ length (b .nodes)) → (j < length (b .nodes)) ⊎ (j ≡ length (b .nodes))
-      → nodeAt (addNode b node) i ≡ nodeAt (addNode b node) j → i ≡ j
-  node-distinct i j (inl l) (inl m) e = held .distinct i j l m (sym (old i l) ∙ e ∙ old j m)
-  node-distinct i j (inl l) (inr m) e = absurd (fresh i l (sym (old i l) ∙ e ∙ new-one j m))
-  node-distinct i j (inr l) (inl m) e = absurd (fresh j m (sym (old j m) ∙ sym e ∙ new-one i l))
-  node-distinct i j (inr l) (inr m) e = l ∙ sym m
+      sym (list-same (nodeRecord node)) ∙ any-false (λ k. sameNode k node) (b .nodes) (passes 8 (nodeTests b node) ok) node m)
 
   held-node : Held (addNode b node)
   held-node =
@@ -136,8 +172,8 @@ module _ (b : Body) (node : Node) (held : Held b) (rows : b .rows ≡ []) (ok : 
         few-rows = held .few-rows;
         few-left = held .few-left;
         few-right = held .few-right;
-        earlier = λ i h. node-earlier i (at-end i h);
-        distinct = λ i j h k e. node-distinct i j (at-end i h) (at-end j k) e;
+        earlier = λ i h. node-earlier i (at-end (length (b .nodes)) i (omega (arith, length-append (b .nodes) (node ∷ []))));
+        distinct = distinct-snoc Node.bot (b .nodes) node (held .distinct) new;
         rows = λ r m. absurd (none-in rows m);
       }
 
@@ -180,11 +216,15 @@ good-held (GoodBody.row {b} g r ok) = held-row b r (good-held g) (passed-row b r
 
 -- the premises' sequents are among those of the earlier rows
 premises-derived : (b : Body) (r : Row) → any (notEarlier (length (b .rows))) (r .premises) ≡ false → premisesOf b r ⊆ derived (b .nodes) (b .rows)
-premises-derived b r known s m = among (r .premises) (λ i k. leb-false (length (b .rows)) i (any-false (notEarlier (length (b .rows))) (r .premises) known i k)) m
+premises-derived b r known s m =
+    among (r .premises) (λ i k. leb-false (length (b .rows)) i (any-false (notEarlier (length (b .rows))) (r .premises) known i k)) m
   where
-    among : (is : List ℕ) → ((i : ℕ) → i ∈ is → i < length (b .rows)) → s ∈ map (λ i. sequentOf (b .nodes) (getD (b .rows) i r)) is → s ∈ derived (b .nodes) (b .rows)
+    among : (is : List ℕ) → ((i : ℕ) → i ∈ is → i < length (b .rows)) → s ∈ map (λ i. sequentOf (b .nodes) (getD (b .rows) i r)) is
+        → s ∈ derived (b .nodes) (b .rows)
     among [] h k = absurd (List·Memᴰ·not-nil k)
-    among (i ∷ is) h k = ⊎-elim (λ e. in-reverse _ [] (Memᴰ·cast e (Memᴰ·map (sequentOf (b .nodes)) (in-getD (b .rows) i r (h i (List·Memᴰ·head refl)))))) (λ j. among is (λ x l. h x (List·Memᴰ·tail l)) j) (List·Memᴰ·cases-cons k)
+    among (i ∷ is) h k =
+        let there = Memᴰ·map (sequentOf (b .nodes)) (in-getD (b .rows) i r (h i (List·Memᴰ·head refl))) in
+        ⊎-elim (λ e. in-reverse _ [] (Memᴰ·cast e there)) (λ j. among is (λ x l. h x (List·Memᴰ·tail l)) j) (List·Memᴰ·cases-cons k)
 
 -- the rows of a good body, decoded, are a derivation
 pub good-derivation : {b : Body} → GoodBody b → Derivation (derived (b .nodes) (b .rows))

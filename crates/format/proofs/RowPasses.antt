@@ -1,13 +1,12 @@
 -- A row passes the tests of its rule, numbers 10 and 11, exactly when it is an instance of the rule with its premises; and
 -- number 10 alone is for rows whose principal formula or premises are not of the rule's kinds.
 use Prim.Native.Nat.{ℕ}
-use mathlib.Core.Path.{_≡_, refl, sym, _∙_, ap, ap₂, subst}
+use mathlib.Core.Path.{_≡_, refl, sym, ap, ap₂, subst}
 use mathlib.Core.Bool.{Bool, true, false, cond, not, _&&_, _||_, true≢false, false≢true}
 use mathlib.Core.List.{List, [], _∷_, map}
 use mathlib.Core.Option.{Option, none, some, IsSome}
 use mathlib.Core.Logic.{_↔_}
 use lib.Dec.{T}
-use Rattle.equilibrium.specs.Formula.{Formula}
 use Rattle.elk.specs.Sequent.{Kind, elk, refutation, Sequent}
 use Rattle.elk.specs.Rules.{entry, hasPrincipal, premiseKinds}
 use Rattle.elk.proofs.Decision.{instance?}
@@ -31,7 +30,9 @@ kinds-same : (js ks : List Kind) → sameKinds js ks ≡ true → js ≡ ks
 kinds-same [] [] e = refl
 kinds-same [] (k ∷ ks) e = absurd (false≢true e)
 kinds-same (j ∷ js) [] e = absurd (false≢true e)
-kinds-same (j ∷ js) (k ∷ ks) e = let both = and-true (sameKind j k) (sameKinds js ks) e in ap₂ (λ (x : Kind) (xs : List Kind). x ∷ xs) (kind-same j k .0 (both .0)) (kinds-same js ks (both .1))
+kinds-same (j ∷ js) (k ∷ ks) e =
+    let both = and-true (sameKind j k) (sameKinds js ks) e in
+    ap₂ (λ (x : Kind) (xs : List Kind). x ∷ xs) (kind-same j k .0 (both .0)) (kinds-same js ks (both .1))
 
 same-kinds : (ks : List Kind) → sameKinds ks ks ≡ true
 same-kinds [] = refl
@@ -50,12 +51,14 @@ same-truth false = refl
 
 pub ten-exactly : (b : Body) (r : Row) → TenExactly b r
 unfolding wrongPremises
-ten-exactly b r = (λ e. let both = or-false _ _ e in record { principal = truth-same _ _ (not-false _ (both .0)); premises = kinds-same _ _ (not-false _ (both .1)) }, right)
+ten-exactly b r =
+    (λ e. let both = or-false _ _ e in record { principal = truth-same _ _ (not-false _ (both .0)); premises = kinds-same _ _ (not-false _ (both .1)) }, right)
   where
     kinds : List Kind
     kinds = map (λ (s : Sequent). s .kind) (premisesOf b r)
 
-    right : RightPremises b r → not (sameTruth (present (r .principal)) (hasPrincipal (entry (r .rule)))) || not (sameKinds kinds (premiseKinds (entry (r .rule)))) ≡ false
+    right : RightPremises b r
+        → not (sameTruth (present (r .principal)) (hasPrincipal (entry (r .rule)))) || not (sameKinds kinds (premiseKinds (entry (r .rule)))) ≡ false
     right p =
         ap₂ (λ (t u : Bool). not t || not u)
         (subst (λ (t : Bool). sameTruth (present (r .principal)) t ≡ true) (p .principal) (same-truth (present (r .principal))))

@@ -11,7 +11,8 @@ use Rattle.format.specs.Text.{Bytes, onto, partsAt, lineFeed, linesOf, a
 use Rattle.format.specs.File.{Node, Row, File}
 use Rattle.format.specs.Line.{Line, atomLine, formulaLine, rowLine, claimLine, lineOf}
 use Rattle.format.specs.Tests.{Test, first, atomTests, formulaTests, rowTests, claimTests}
-use Rattle.format.specs.Judged.{Place, Outcome, next, refused, settled, orBadLine, stepRead, step, after, below, run, withAtom, withNode, withRow, withClaim, nameStart, Answer, turnedDown, orNoClaim, finish, runFrom, answerFrom}
+use Rattle.format.specs.Judged.{Place, Outcome, next, refused, settled, orBadLine, stepRead, step, after, below}
+use Rattle.format.specs.Judged.{run, withAtom, withNode, withRow, withClaim, nameStart, Answer, turnedDown, orNoClaim, finish, runFrom, answerFrom}
 
 -- the first test that applies gives its number
 
@@ -32,11 +33,13 @@ module _ (f : File) (p : Place) (line : Bytes) where
   step-well l e = ap (λ (o : Option Line). orBadLine o p (stepRead f p line)) e
 
   -- a line that is well written: by its tests
-  pub step-atom : (n : ℕ) (name : Bytes) → lineOf line ≡ some (atomLine n name) → step f p line ≡ settled (first (atomTests f n name)) p (withAtom f (nameStart p line) name)
+  pub step-atom : (n : ℕ) (name : Bytes) → lineOf line ≡ some (atomLine n name)
+      → step f p line ≡ settled (first (atomTests f n name)) p (withAtom f (nameStart p line) name)
   unfolding stepRead
   step-atom n name e = step-well (atomLine n name) e
 
-  pub step-formula : (n : ℕ) (node : Node) → lineOf line ≡ some (formulaLine n node) → step f p line ≡ settled (first (formulaTests f n node)) p (withNode f node)
+  pub step-formula : (n : ℕ) (node : Node) → lineOf line ≡ some (formulaLine n node)
+      → step f p line ≡ settled (first (formulaTests f n node)) p (withNode f node)
   unfolding stepRead
   step-formula n node e = step-well (formulaLine n node) e
 
@@ -44,7 +47,8 @@ module _ (f : File) (p : Place) (line : Bytes) where
   unfolding stepRead
   step-row n r e = step-well (rowLine n r) e
 
-  pub step-claim : (l r : List ℕ) → lineOf line ≡ some (claimLine l r) → step f p line ≡ settled (first (claimTests f l r)) p (withClaim f (record { line = p .line; left = l; right = r }))
+  pub step-claim : (l r : List ℕ) → lineOf line ≡ some (claimLine l r)
+      → step f p line ≡ settled (first (claimTests f l r)) p (withClaim f (record { line = p .line; left = l; right = r }))
   unfolding stepRead
   step-claim l r e = step-well (claimLine l r) e
 
@@ -87,49 +91,66 @@ unfolding partsAt
 parts-some separator [] = ([], [], refl)
 parts-some separator (b ∷ bs) = cases (eqb b separator) (parts-some separator bs)
   where
-    cases : (t : Bool) → (part : Bytes) × (parts : List Bytes) × (partsAt separator bs ≡ part ∷ parts) → (part : Bytes) × (parts : List Bytes) × (cond t ([] ∷ partsAt separator bs) (onto b (partsAt separator bs)) ≡ part ∷ parts)
+    cases : (t : Bool) → (part : Bytes) × (parts : List Bytes) × (partsAt separator bs ≡ part ∷ parts)
+        → (part : Bytes) × (parts : List Bytes) × (cond t ([] ∷ partsAt separator bs) (onto b (partsAt separator bs)) ≡ part ∷ parts)
     cases true r = ([], partsAt separator bs, refl)
     cases false r = (b ∷ r .0, r .1, ap (onto b) (r .2))
 
 -- a line that ends in LF, and what follows it
-pub lines-cons : (bs line rest : Bytes) → partsAt lineFeed bs ≡ line ∷ partsAt lineFeed rest → linesOf bs ≡ record { complete = line ∷ linesOf rest .complete; rest = linesOf rest .rest }
+pub lines-cons : (bs line rest : Bytes) → partsAt lineFeed bs ≡ line ∷ partsAt lineFeed rest
+    → linesOf bs ≡ record { complete = line ∷ linesOf rest .complete; rest = linesOf rest .rest }
 unfolding linesOf
 lines-cons bs line rest e = ap allButLast e ∙ cut (partsAt lineFeed rest) (parts-some lineFeed rest)
   where
-    cut : (parts : List Bytes) → (q : Bytes) × (qs : List Bytes) × (parts ≡ q ∷ qs) → allButLast (line ∷ parts) ≡ record { complete = line ∷ allButLast parts .complete; rest = allButLast parts .rest }
-    cut parts r = ap (λ (ps : List Bytes). allButLast (line ∷ ps)) (r .2) ∙ ap (λ (ps : List Bytes). record { complete = line ∷ allButLast ps .complete; rest = allButLast ps .rest }) (sym (r .2))
+    cut : (parts : List Bytes) → (q : Bytes) × (qs : List Bytes) × (parts ≡ q ∷ qs)
+        → allButLast (line ∷ parts) ≡ record { complete = line ∷ allButLast parts .complete; rest = allButLast parts .rest }
+    cut parts r =
+        ap (λ (ps : List Bytes). allButLast (line ∷ ps)) (r .2)
+        ∙ ap (λ (ps : List Bytes). record { complete = line ∷ allButLast ps .complete; rest = allButLast ps .rest }) (sym (r .2))
 
 -- no line that ends in LF
 pub lines-last : (bs : Bytes) → partsAt lineFeed bs ≡ bs ∷ [] → linesOf bs ≡ record { complete = []; rest = bs }
 unfolding linesOf
 lines-last bs e = ap allButLast e
 
+-- the answer by what the line at a place comes to, and the lines after it
+abbrev answerBy : Place → Bytes → Bytes → Outcome File → Answer
+answerBy p line rest o =
+    finish (after o (run step (below p line) (linesOf rest .complete))) (linesOf rest .rest) (p .line + 1 + length (linesOf rest .complete))
+
 module _ (p : Place) (f : File) where
-  pub run-line : (bs line rest : Bytes) → partsAt lineFeed bs ≡ line ∷ partsAt lineFeed rest → runFrom p bs f ≡ after (step f p line) (run step (below p line) (linesOf rest .complete))
+  pub run-line : (bs line rest : Bytes) → partsAt lineFeed bs ≡ line ∷ partsAt lineFeed rest
+      → runFrom p bs f ≡ after (step f p line) (run step (below p line) (linesOf rest .complete))
   unfolding run
   run-line bs line rest e = ap (λ (ls : Lines). run step p (ls .complete) f) (lines-cons bs line rest e)
 
-  answer-line : (bs line rest : Bytes) → partsAt lineFeed bs ≡ line ∷ partsAt lineFeed rest → answerFrom p bs f ≡ finish (after (step f p line) (run step (below p line) (linesOf rest .complete))) (linesOf rest .rest) (p .line + 1 + length (linesOf rest .complete))
+  answer-line : (bs line rest : Bytes) → partsAt lineFeed bs ≡ line ∷ partsAt lineFeed rest
+      → answerFrom p bs f ≡ answerBy p line rest (step f p line)
   unfolding run
   answer-line bs line rest e =
       ap (λ (ls : Lines). finish (run step p (ls .complete) f) (ls .rest) (p .line + length (ls .complete))) (lines-cons bs line rest e)
       ∙ ap (finish (after (step f p line) (run step (below p line) (linesOf rest .complete))) (linesOf rest .rest)) (omega arith)
 
   -- a line that passes
-  pub run-next : (bs line rest : Bytes) (t : File) → partsAt lineFeed bs ≡ line ∷ partsAt lineFeed rest → step f p line ≡ next t → runFrom p bs f ≡ runFrom (below p line) rest t
+  pub run-next : (bs line rest : Bytes) (t : File) → partsAt lineFeed bs ≡ line ∷ partsAt lineFeed rest → step f p line ≡ next t
+      → runFrom p bs f ≡ runFrom (below p line) rest t
   run-next bs line rest t e k = run-line bs line rest e ∙ ap (λ (o : Outcome File). after o (run step (below p line) (linesOf rest .complete))) k
 
-  pub answer-next : (bs line rest : Bytes) (t : File) → partsAt lineFeed bs ≡ line ∷ partsAt lineFeed rest → step f p line ≡ next t → answerFrom p bs f ≡ answerFrom (below p line) rest t
-  answer-next bs line rest t e k = answer-line bs line rest e ∙ ap (λ (o : Outcome File). finish (after o (run step (below p line) (linesOf rest .complete))) (linesOf rest .rest) (p .line + 1 + length (linesOf rest .complete))) k
+  pub answer-next : (bs line rest : Bytes) (t : File) → partsAt lineFeed bs ≡ line ∷ partsAt lineFeed rest → step f p line ≡ next t
+      → answerFrom p bs f ≡ answerFrom (below p line) rest t
+  answer-next bs line rest t e k = answer-line bs line rest e ∙ ap (answerBy p line rest) k
 
   -- a line that is refused
-  pub answer-refused : (bs line rest : Bytes) (n l : ℕ) → partsAt lineFeed bs ≡ line ∷ partsAt lineFeed rest → step f p line ≡ refused n l → answerFrom p bs f ≡ turnedDown n l
-  answer-refused bs line rest n l e k = answer-line bs line rest e ∙ ap (λ (o : Outcome File). finish (after o (run step (below p line) (linesOf rest .complete))) (linesOf rest .rest) (p .line + 1 + length (linesOf rest .complete))) k
+  pub answer-refused : (bs line rest : Bytes) (n l : ℕ) → partsAt lineFeed bs ≡ line ∷ partsAt lineFeed rest → step f p line ≡ refused n l
+      → answerFrom p bs f ≡ turnedDown n l
+  answer-refused bs line rest n l e k = answer-line bs line rest e ∙ ap (answerBy p line rest) k
 
   -- bytes with no LF
   pub answer-stub : (b : ℕ) (bs : Bytes) → partsAt lineFeed (b ∷ bs) ≡ (b ∷ bs) ∷ [] → answerFrom p (b ∷ bs) f ≡ turnedDown 3 (p .line)
   unfolding run
-  answer-stub b bs e = ap (λ (ls : Lines). finish (run step p (ls .complete) f) (ls .rest) (p .line + length (ls .complete))) (lines-last (b ∷ bs) e) ∙ ap (turnedDown 3) (omega arith)
+  answer-stub b bs e =
+      ap (λ (ls : Lines). finish (run step p (ls .complete) f) (ls .rest) (p .line + length (ls .complete))) (lines-last (b ∷ bs) e)
+      ∙ ap (turnedDown 3) (omega arith)
 
   -- nothing left
   pub run-end : runFrom p [] f ≡ next f

@@ -1,4 +1,5 @@
--- What an accepted beginning of a file holds, and the formulas that its numbers stand for.
+-- What an accepted beginning of a file holds, and the formulas that its numbers stand for. Atoms, formulas and rows are
+-- numbered from 0 in the order of their lines; a formula or a row names earlier ones by number.
 use Prim.Native.Nat.{ℕ}
 use mathlib.Core.List.{List, [], _∷_, _++_, map}
 use mathlib.Core.Option.{Option, none}
@@ -43,12 +44,14 @@ pub record Body : Type 0 where
 pub data Stage : Type 0 where
   in-atoms in-formulas in-rows claimed : Stage
 
+-- what an accepted beginning of a file holds
 pub record File : Type 0 where
   pub names : List Name
   pub body : Body
   pub stage : Stage
   pub claim : Option Claim
 
+-- nothing yet
 abbrev pub noBody : Body
 noBody = record { atoms = 0; nodes = []; rows = [] }
 
@@ -60,6 +63,7 @@ addNode b node = record { atoms = b .atoms; nodes = b .nodes ++ node ∷ []; row
 abbrev pub addRow : Body → Row → Body
 addRow b r = record { atoms = b .atoms; nodes = b .nodes; rows = b .rows ++ r ∷ [] }
 
+-- the file before its first line
 abbrev pub noFile : File
 noFile = record { names = []; body = noBody; stage = in-atoms; claim = none }
 
@@ -76,6 +80,7 @@ formulaOf earlier (Node.and i j) = Formula.conj (formulaAt earlier i) (formulaAt
 formulaOf earlier (Node.or i j) = Formula.disj (formulaAt earlier i) (formulaAt earlier j)
 formulaOf earlier (Node.imp i j) = Formula.imp (formulaAt earlier i) (formulaAt earlier j)
 
+-- these formulas, and then those of the nodes in turn
 abbrev pub formulasAfter : List Formula → List Node → List Formula
 formulasAfter earlier [] = earlier
 formulasAfter earlier (n ∷ ns) = formulasAfter (earlier ++ formulaOf earlier n ∷ []) ns

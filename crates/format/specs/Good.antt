@@ -13,7 +13,7 @@ use Rattle.format.specs.File.{Node, Row, Name, Claim, Body, File, addNod
 use Rattle.format.specs.Line.{claimLine, lineOf}
 use Rattle.format.specs.Tables.{mostAtoms}
 use Rattle.format.specs.Tests.{first, rank, nodeTests, bodyTests, lastIs}
-use Rattle.format.specs.Judged.{Said, saidBy}
+use Rattle.format.specs.Judged.{saidBy}
 
 -- so many atoms, and nothing else
 abbrev pub bare : ℕ → Body

@@ -8,7 +8,7 @@ use lib.Dec.{ltb}
 use lib.ListN.{length, getD}
 use Rattle.equilibrium.specs.Meaning.{_∈_, Fails}
 use Rattle.format.specs.Text.{Bytes, linesOf, fieldsOf}
-use Rattle.format.specs.File.{Node, Row, Claim, Body, in-atoms, in-formulas, in-rows, claimed, File, addNode, addRow, noFile, decoded}
+use Rattle.format.specs.File.{Node, Row, Claim, in-atoms, in-formulas, in-rows, claimed, File, addNode, addRow, noFile, decoded}
 use Rattle.format.specs.Line.{Line, atomLine, formulaLine, rowLine, claimLine, lineOf}
 use Rattle.format.specs.Tables.{Lent, tooShort, Contents, encode, mostBytes}
 use Rattle.format.specs.Tests.{Test, _when_, first, atomTests, formulaTests, rowTests, claimTests}
@@ -32,6 +32,7 @@ settled (some n) p f = refused n (p .line)
 abbrev pub nameStart : Place → Bytes → ℕ
 nameStart p line = p .start + 3 + length (getD (fieldsOf line) 1 [])
 
+-- the file with one atom more
 abbrev pub withAtom : File → ℕ → Bytes → File
 withAtom f start name =
     record {
@@ -41,12 +42,15 @@ withAtom f start name =
       claim = f .claim;
     }
 
+-- the file with one formula more
 abbrev pub withNode : File → Node → File
 withNode f node = record { names = f .names; body = addNode (f .body) node; stage = in-formulas; claim = f .claim }
 
+-- the file with one row more
 abbrev pub withRow : File → Row → File
 withRow f r = record { names = f .names; body = addRow (f .body) r; stage = in-rows; claim = f .claim }
 
+-- the file with its claim
 abbrev pub withClaim : File → Claim → File
 withClaim f c = record { names = f .names; body = f .body; stage = claimed; claim = some c }
 
@@ -57,6 +61,7 @@ stepRead f p line (formulaLine n node) = settled (first (formulaTests f n node))
 stepRead f p line (rowLine n r) = settled (first (rowTests f n r)) p (withRow f r)
 stepRead f p line (claimLine left right) = settled (first (claimTests f left right)) p (withClaim f (record { line = p .line; left = left; right = right }))
 
+-- a line that is badly written is refused with 3
 abbrev pub orBadLine : Option Line → Place → (Line → Outcome File) → Outcome File
 orBadLine none p k = refused 3 (p .line)
 orBadLine (some l) p k = k l
@@ -65,10 +70,12 @@ orBadLine (some l) p k = k l
 unfoldable pub step : File → Place → Bytes → Outcome File
 step f p line = orBadLine (lineOf line) p (stepRead f p line)
 
+-- go on where nothing was refused
 abbrev pub after : {S : Type 0} → Outcome S → (S → Outcome S) → Outcome S
 after (next s) k = k s
 after (refused n l) k = refused n l
 
+-- the place of the next line
 abbrev pub below : Place → Bytes → Place
 below p line = record { line = p .line + 1; start = p .start + length line + 1 }
 
@@ -77,6 +84,7 @@ unfoldable pub run : {S : Type 0} → (S → Place → Bytes → Outcome S) → 
 run step p [] s = next s
 run step p (l ∷ ls) s = after (step s p l) (run step (below p l) ls)
 
+-- the place of the first line
 abbrev pub top : Place
 top = record { line = 1; start = 0 }
 
@@ -89,14 +97,17 @@ pub data Answer : Type 0 where
   accepted : ℕ → Answer
   turnedDown : ℕ → ℕ → Answer
 
+-- the number of an answer: 0 if accepted
 abbrev pub numberIn : Answer → ℕ
 numberIn (accepted l) = 0
 numberIn (turnedDown n l) = n
 
+-- the line of an answer
 abbrev pub lineIn : Answer → ℕ
 lineIn (accepted l) = l
 lineIn (turnedDown n l) = l
 
+-- accepted with the claim's line, or 13 where there is none
 abbrev pub orNoClaim : Option Claim → ℕ → Answer
 orNoClaim none l = turnedDown 13 l
 orNoClaim (some c) l = accepted (c .line)
@@ -111,6 +122,7 @@ finish (next f) (b ∷ bs) l = turnedDown 3 l
 abbrev pub runFrom : Place → Bytes → File → Outcome File
 runFrom p bs f = run step p (linesOf bs .complete) f
 
+-- the answer to the lines from a place on
 abbrev pub answerFrom : Place → Bytes → File → Answer
 answerFrom p bs f = finish (runFrom p bs f) (linesOf bs .rest) (p .line + length (linesOf bs .complete))
 
@@ -118,6 +130,7 @@ answerFrom p bs f = finish (runFrom p bs f) (linesOf bs .rest) (p .line + length
 abbrev pub wholeTests : Lent → Bytes → List Test
 wholeTests t text = (1 when tooShort t) ∷ (2 when ltb mostBytes (length text)) ∷ []
 
+-- a text that is refused as a whole has line 0
 abbrev pub orWhole : Option ℕ → Answer → Answer
 orWhole none answer = answer
 orWhole (some n) answer = turnedDown n 0
@@ -126,6 +139,7 @@ orWhole (some n) answer = turnedDown n 0
 unfoldable pub judged : Lent → Bytes → Answer
 judged t text = orWhole (first (wholeTests t text)) (answerFrom top text noFile)
 
+-- the file of an accepted text; nothing of another
 abbrev pub heldBy : Answer → Outcome File → Contents
 heldBy (accepted l) (next f) = encode f
 heldBy (accepted l) (refused n k) = encode noFile
@@ -142,6 +156,7 @@ pub record Said : Type 0 where
   pub names : List Bytes
   pub nodes : List Node
 
+-- what one line says more
 abbrev pub saying : Said → Option Line → Said
 saying s none = s
 saying s (some (atomLine n name)) = record { names = s .names ++ name ∷ []; nodes = s .nodes }
@@ -149,6 +164,7 @@ saying s (some (formulaLine n node)) = record { names = s .names; nodes = s .nod
 saying s (some (rowLine n r)) = s
 saying s (some (claimLine left right)) = s
 
+-- what lines say after others
 abbrev pub saidAfter : Said → List Bytes → Said
 saidAfter s [] = s
 saidAfter s (l ∷ ls) = saidAfter (saying s (lineOf l)) ls

@@ -6,3 +6,6 @@ pub mod Tests
 pub mod Judged
 pub mod Good
 pub mod Passing
+pub mod Written
+pub mod Document
+pub mod Transcript

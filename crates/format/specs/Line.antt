@@ -1,4 +1,5 @@
--- One line, as it is written (paper 01, "The text").
+-- One line, as it is written (paper 01, "The text"): fields parted by tabs, of which the first says the kind of the line.
+-- What a line says is read with no regard to the lines before it.
 use Prim.Native.Nat.{ℕ}
 use mathlib.Core.Bool.{cond, _&&_}
 use mathlib.Core.List.{List, [], _∷_}
@@ -9,6 +10,7 @@ use Rattle.elk.specs.Rules.{Rule, rules, wordOf}
 use Rattle.format.specs.Text.{Bytes, fieldsOf, numberOf, sideOf, premisesOf, principalOf, is, _<$>_, _<*>_, onlyIf}
 use Rattle.format.specs.File.{Node, Row}
 
+-- the four kinds of line: A, F, N and C, with what they say
 pub data Line : Type 0 where
   atomLine : ℕ → Bytes → Line
   formulaLine : ℕ → Node → Line
@@ -20,12 +22,15 @@ abbrev pub ruleAmong : List Rule → Bytes → Option Rule
 ruleAmong [] field = none
 ruleAmong (r ∷ rs) field = cond (is (wordOf r) field) (some r) (ruleAmong rs field)
 
+-- the rule of a word
 unfoldable pub ruleOf : Bytes → Option Rule
 ruleOf field = ruleAmong rules field
 
+-- a word with one number, and then `-`
 abbrev pub unary : (ℕ → Node) → Bytes → Bytes → Option Node
 unary node first second = onlyIf (is "-" second) (node <$> numberOf first)
 
+-- a word with two numbers
 abbrev pub binary : (ℕ → ℕ → Node) → Bytes → Bytes → Option Node
 binary node first second = node <$> numberOf first <*> numberOf second
 
@@ -55,6 +60,7 @@ unfoldable pub formulaFields : List Bytes → Option Line
 formulaFields fields =
     ofFields 4 fields ((λ n node. formulaLine n node) <$> numberOf (fieldAt fields 0) <*> nodeOf (fieldAt fields 1) (fieldAt fields 2) (fieldAt fields 3))
 
+-- a row of its fields
 abbrev pub makeRow : Rule → Option ℕ → List ℕ → List ℕ → List ℕ → Row
 makeRow rule principal premises left right = record { rule = rule; principal = principal; premises = premises; left = left; right = right }
 
@@ -78,10 +84,13 @@ claimFields fields = ofFields 2 fields ((λ l r. claimLine l r) <$> sideOf (fiel
 abbrev pub mostFields : ℕ
 mostFields = 7
 
+-- the first field says the kind
 abbrev pub ofKind : List Bytes → Option Line
 ofKind [] = none
 ofKind (kind ∷ fields) =
-    cond (is "A" kind) (atomFields fields) (cond (is "F" kind) (formulaFields fields) (cond (is "N" kind) (rowFields fields) (cond (is "C" kind) (claimFields fields) none)))
+    cond (is "A" kind) (atomFields fields) (
+    cond (is "F" kind) (formulaFields fields) (
+    cond (is "N" kind) (rowFields fields) (cond (is "C" kind) (claimFields fields) none)))
 
 -- the line that these bytes write; none if they are badly written
 unfoldable pub lineOf : Bytes → Option Line

@@ -1,6 +1,7 @@
--- What it is for a row to pass its rule (paper 01, numbers 10 and 11), in the calculus' own terms.
+-- What it is for a row to pass its rule (paper 01, numbers 10 and 11), in the calculus' own terms. RowPasses proves
+-- `PassesExactly` and `TenExactly` of every row over every body.
 use mathlib.Core.Path.{_≡_}
-use mathlib.Core.List.{List, map}
+use mathlib.Core.List.{map}
 use mathlib.Core.Logic.{_↔_}
 use mathlib.Core.Option.{none}
 use mathlib.Core.Bool.{false}

@@ -12,6 +12,7 @@ use Rattle.format.specs.File.{Node, Row, Name, Body, File}
 abbrev pub absent : ℕ
 absent = 65535
 
+-- a number, or that of an absent field
 abbrev pub orAbsent : Option ℕ → ℕ
 orAbsent none = absent
 orAbsent (some n) = n
@@ -29,24 +30,28 @@ nodeRecord (Node.imp i j) = 5 ∷ i ∷ j ∷ []
 abbrev pub nameRecord : Name → List ℕ
 nameRecord n = n .start ∷ length (n .name) ∷ []
 
--- the count of numbers in the record of a name, of a formula and of a row
+-- the count of numbers in the record of a name
 abbrev pub nameWidth : ℕ
 nameWidth = 2
 
+-- of a formula
 abbrev pub nodeWidth : ℕ
 nodeWidth = 3
 
+-- of a row
 abbrev pub rowWidth : ℕ
 rowWidth = 8
 
+-- the numbers of each, one after the other
 abbrev pub joinAll : {A : Type 0} → (A → List ℕ) → List A → List ℕ
 joinAll f [] = []
 joinAll f (x ∷ xs) = f x ++ joinAll f xs
 
--- the sides of rows, in row order without gaps
+-- the left sides of rows, in row order without gaps
 abbrev pub leftPool : List Row → List ℕ
 leftPool rows = joinAll (λ r. r .left) rows
 
+-- the right sides
 abbrev pub rightPool : List Row → List ℕ
 rightPool rows = joinAll (λ r. r .right) rows
 
@@ -61,9 +66,11 @@ abbrev pub recordsAfter : List Row → List Row → List ℕ
 recordsAfter earlier [] = []
 recordsAfter earlier (r ∷ rs) = rowRecord earlier r ++ recordsAfter (earlier ++ r ∷ []) rs
 
+-- the records of rows, from the first on
 abbrev pub rowRecords : List Row → List ℕ
 rowRecords rows = recordsAfter [] rows
 
+-- what the five tables hold
 pub record Contents : Type 0 where
   pub names : List ℕ
   pub formulas : List ℕ
@@ -76,6 +83,7 @@ abbrev pub encodeBody : List ℕ → Body → Contents
 encodeBody names b =
     record { names = names; formulas = joinAll nodeRecord (b .nodes); rows = rowRecords (b .rows); left = leftPool (b .rows); right = rightPool (b .rows) }
 
+-- the tables of a file
 abbrev pub encode : File → Contents
 encode f = encodeBody (joinAll nameRecord (f .names)) (f .body)
 
@@ -91,22 +99,27 @@ pub record Lent : Type 0 where
   pub left : ℕ
   pub right : ℕ
 
--- the most that a file holds of each
+-- the most atoms of a file
 abbrev pub mostAtoms : ℕ
 mostAtoms = 64
 
+-- the most formulas
 abbrev pub mostFormulas : ℕ
 mostFormulas = 1024
 
+-- the most rows
 abbrev pub mostRows : ℕ
 mostRows = 2048
 
+-- the most entries of all left sides together, and of all right sides
 abbrev pub mostEntries : ℕ
 mostEntries = 16384
 
+-- the most formulas on one side
 abbrev pub mostOnSide : ℕ
 mostOnSide = 64
 
+-- the most bytes of a text
 abbrev pub mostBytes : ℕ
 mostBytes = 65536
 
@@ -121,6 +134,7 @@ least =
       right = mostEntries;
     }
 
+-- some table is shorter than the least length
 unfoldable pub tooShort : Lent → Bool
 tooShort t =
     ltb (t .names) (least .names) || ltb (t .formulas) (least .formulas) || ltb (t .rows) (least .rows)
@@ -130,9 +144,11 @@ tooShort t =
 abbrev pub part : List ℕ → ℕ → ℕ → List ℕ
 part table start len = cond (leb (start + len) (length table)) (take len (drop start table)) []
 
+-- the record of row i
 abbrev pub rowAt : List ℕ → ℕ → List ℕ
 rowAt rows i = part rows (rowWidth * i) rowWidth
 
+-- the two sides of a row
 pub data Side : Type 0 where
   left right : Side
 

@@ -13,11 +13,13 @@ use Rattle.format.specs.Text.{Bytes, _<$>_, any, isName, sameList, stric
 use Rattle.format.specs.File.{Node, Row, Body, Stage, in-atoms, in-formulas, in-rows, claimed, File, decodedAt, sequentOf}
 use Rattle.format.specs.Tables.{nodeRecord, leftPool, rightPool, mostAtoms, mostFormulas, mostRows, mostEntries, mostOnSide}
 
+-- a refusal number, and whether it applies
 pub record Test : Type 0 where
   pub number : ℕ
   pub applies : Bool
 
 infix 4 _when_
+-- a test under its number
 abbrev pub _when_ : ℕ → Bool → Test
 n when b = record { number = n; applies = b }
 
@@ -26,6 +28,7 @@ abbrev pub first : List Test → Option ℕ
 first [] = none
 first (t ∷ ts) = cond (t .applies) (some (t .number)) (first ts)
 
+-- the stages in their order
 abbrev pub rank : Stage → ℕ
 rank in-atoms = 0
 rank in-formulas = 1
@@ -48,12 +51,14 @@ notEarlier held i = leb held i
 abbrev pub unknownFormula : Body → List ℕ → Bool
 unknownFormula b is = any (notEarlier (length (b .nodes))) is
 
+-- the principal formula as a list: one number, or none
 abbrev pub listed : Option ℕ → List ℕ
 listed none = []
 listed (some i) = i ∷ []
 
 -- A
 
+-- order, room, and a name of 01's form that is not used yet
 abbrev pub atomTests : File → ℕ → Bytes → List Test
 atomTests f n name =
     (4 when outOfOrder (f .stage) in-atoms (f .body .atoms) n)
@@ -63,6 +68,7 @@ atomTests f n name =
 
 -- F. Its tests but 4 are by the body alone.
 
+-- it names an atom or a formula that is not there yet
 abbrev pub refersAhead : Body → Node → Bool
 refersAhead b Node.bot = false
 refersAhead b (Node.atom k) = notEarlier (b .atoms) k
@@ -75,6 +81,7 @@ refersAhead b (Node.imp i j) = unknownFormula b (i ∷ j ∷ [])
 abbrev pub sameNode : Node → Node → Bool
 sameNode m n = sameList (nodeRecord m) (nodeRecord n)
 
+-- room, references, and a formula that is not there yet
 abbrev pub nodeTests : Body → Node → List Test
 nodeTests b node =
     (5 when leb mostFormulas (length (b .nodes)))
@@ -82,6 +89,7 @@ nodeTests b node =
     ∷ (8 when any (λ m. sameNode m node) (b .nodes))
     ∷ []
 
+-- order, and then these
 abbrev pub formulaTests : File → ℕ → Node → List Test
 formulaTests f n node = (4 when outOfOrder (f .stage) in-formulas (length (f .body .nodes)) n) ∷ nodeTests (f .body) node
 
@@ -91,36 +99,47 @@ formulaTests f n node = (4 when outOfOrder (f .stage) in-formulas (length (f .bo
 abbrev pub passed : List ℕ → List ℕ → Bool
 passed pool entries = ltb mostEntries (length pool + length entries)
 
+-- room for the row and for its two sides
 abbrev pub roomTests : Body → Row → List Test
 roomTests b r = (5 when leb mostRows (length (b .rows)) || passed (leftPool (b .rows)) (r .left) || passed (rightPool (b .rows)) (r .right)) ∷ []
 
+-- every number names a formula that is there, or an earlier row
 abbrev pub referenceTests : Body → Row → List Test
 referenceTests b r =
-    (7 when unknownFormula b (listed (r .principal)) || any (notEarlier (length (b .rows))) (r .premises) || unknownFormula b (r .left) || unknownFormula b (r .right)) ∷ []
+    (7 when unknownFormula b (listed (r .principal))
+    || any (notEarlier (length (b .rows))) (r .premises)
+    || unknownFormula b (r .left)
+    || unknownFormula b (r .right))
+    ∷ []
 
 -- not strictly rising, or too many
 abbrev pub badSide : List ℕ → Bool
 badSide is = not (strictlyRising is) || ltb mostOnSide (length is)
 
+-- both sides are good
 abbrev pub sideTests : List ℕ → List ℕ → List Test
 sideTests left right = (9 when badSide left || badSide right) ∷ []
 
+-- the kinds are equal
 abbrev pub sameKind : Kind → Kind → Bool
 sameKind elk elk = true
 sameKind elk refutation = false
 sameKind refutation elk = false
 sameKind refutation refutation = true
 
+-- the kinds are equal, one by one
 abbrev pub sameKinds : List Kind → List Kind → Bool
 sameKinds [] [] = true
 sameKinds [] (k ∷ ks) = false
 sameKinds (j ∷ js) [] = false
 sameKinds (j ∷ js) (k ∷ ks) = sameKind j k && sameKinds js ks
 
+-- there is one
 abbrev pub present : Option ℕ → Bool
 present none = false
 present (some i) = true
 
+-- both or neither
 abbrev pub sameTruth : Bool → Bool → Bool
 sameTruth true b = b
 sameTruth false b = not b
@@ -129,10 +148,13 @@ sameTruth false b = not b
 abbrev pub premisesOf : Body → Row → List Sequent
 premisesOf b r = map (λ i. sequentOf (b .nodes) (getD (b .rows) i r)) (r .premises)
 
+-- a principal formula too many or missing, or premises that are not of the rule's kinds
 unfoldable pub wrongPremises : Body → Row → Bool
 wrongPremises b r =
-    not (sameTruth (present (r .principal)) (hasPrincipal (entry (r .rule)))) || not (sameKinds (map (λ s. s .kind) (premisesOf b r)) (premiseKinds (entry (r .rule))))
+    not (sameTruth (present (r .principal)) (hasPrincipal (entry (r .rule))))
+    || not (sameKinds (map (λ s. s .kind) (premisesOf b r)) (premiseKinds (entry (r .rule))))
 
+-- a decision that came out no
 abbrev pub isNo : {X : Type 0} → Dec X → Bool
 isNo (yes x) = false
 isNo (no n) = true
@@ -141,12 +163,15 @@ isNo (no n) = true
 unfoldable pub wrongStep : Body → Row → Bool
 wrongStep b r = isNo (instance? (r .rule) (decodedAt (b .nodes) <$> r .principal) (premisesOf b r) (sequentOf (b .nodes) r))
 
+-- the premises, and then the step
 abbrev pub ruleTests : Body → Row → List Test
 ruleTests b r = (10 when wrongPremises b r) ∷ (11 when wrongStep b r) ∷ []
 
+-- all tests of a row but its order
 abbrev pub bodyTests : Body → Row → List Test
 bodyTests b r = roomTests b r ++ referenceTests b r ++ sideTests (r .left) (r .right) ++ ruleTests b r
 
+-- order, and then these
 abbrev pub rowTests : File → ℕ → Row → List Test
 rowTests f n r = (4 when outOfOrder (f .stage) in-rows (length (f .body .rows)) n) ∷ bodyTests (f .body) r
 
@@ -158,6 +183,7 @@ lastIs [] left right = false
 lastIs (r ∷ []) left right = sameKind (kindOf (entry (r .rule))) elk && sameList (r .left) left && sameList (r .right) right
 lastIs (r ∷ q ∷ qs) left right = lastIs (q ∷ qs) left right
 
+-- order, references, sides, and the last row
 abbrev pub claimTests : File → List ℕ → List ℕ → List Test
 claimTests f left right =
     (4 when not (mayFollow (f .stage) claimed))

@@ -8,6 +8,7 @@ use mathlib.Core.Option.{Option, none, some}
 use lib.Dec.{eqb, ltb, leb}
 use lib.ListN.{length}
 
+-- bytes, each as a number
 abbrev pub Bytes : Type 0
 Bytes = List ℕ
 
@@ -16,12 +17,15 @@ abbrev pub bytes : String → Bytes
 bytes end = []
 bytes (then c s) = code c ∷ bytes s
 
+-- between two fields
 abbrev pub tab : ℕ
 tab = 9
 
+-- LF, at the end of a line
 abbrev pub lineFeed : ℕ
 lineFeed = 10
 
+-- between two numbers of a list
 abbrev pub comma : ℕ
 comma = 44
 
@@ -40,14 +44,17 @@ pub record Lines : Type 0 where
   pub complete : List Bytes
   pub rest : Bytes
 
+-- the last part is what is left
 abbrev pub allButLast : List Bytes → Lines
 allButLast [] = record { complete = []; rest = [] }
 allButLast (p ∷ []) = record { complete = []; rest = p }
 allButLast (p ∷ q ∷ ps) = record { complete = p ∷ allButLast (q ∷ ps) .complete; rest = allButLast (q ∷ ps) .rest }
 
+-- the lines of a text
 unfoldable pub linesOf : Bytes → Lines
 linesOf text = allButLast (partsAt lineFeed text)
 
+-- the fields of a line
 unfoldable pub fieldsOf : Bytes → List Bytes
 fieldsOf line = partsAt tab line
 
@@ -62,6 +69,7 @@ abbrev pub _<*>_ : {A B : Type 0} → Option (A → B) → Option A → Option B
 none <*> a = none
 some f <*> a = f <$> a
 
+-- where a test comes out true
 abbrev pub onlyIf : {A : Type 0} → Bool → Option A → Option A
 onlyIf true a = a
 onlyIf false a = none
@@ -71,14 +79,17 @@ abbrev pub each : {A B : Type 0} → (A → Option B) → List A → Option (Lis
 each f [] = some []
 each f (x ∷ xs) = (λ y ys. y ∷ ys) <$> f x <*> each f xs
 
+-- the test is true of every one
 abbrev pub all : {A : Type 0} → (A → Bool) → List A → Bool
 all f [] = true
 all f (x ∷ xs) = f x && all f xs
 
+-- the test is true of some one
 abbrev pub any : {A : Type 0} → (A → Bool) → List A → Bool
 any f [] = false
 any f (x ∷ xs) = f x || any f xs
 
+-- the same numbers in the same order
 unfoldable pub sameList : List ℕ → List ℕ → Bool
 sameList [] [] = true
 sameList [] (y ∷ ys) = false
@@ -102,6 +113,7 @@ abbrev pub valueFrom : ℕ → Bytes → ℕ
 valueFrom n [] = n
 valueFrom n (d ∷ ds) = valueFrom (n * 10 + (d - 48)) ds
 
+-- two digits or more, of which the first is 0
 abbrev pub leadingZero : Bytes → Bool
 leadingZero [] = false
 leadingZero (d ∷ []) = false
@@ -127,6 +139,7 @@ premisesOf field = listOf field
 unfoldable pub principalOf : Bytes → Option (Option ℕ)
 principalOf field = cond (is "-" field) (some none) ((λ n. some n) <$> numberOf field)
 
+-- the first byte is a letter
 abbrev pub startsWithLetter : Bytes → Bool
 startsWithLetter [] = false
 startsWithLetter (b ∷ bs) = isLetter b
@@ -135,6 +148,7 @@ startsWithLetter (b ∷ bs) = isLetter b
 unfoldable pub isName : Bytes → Bool
 isName field = startsWithLetter field && leb (length field) 24 && all (λ b. isLetter b || isDigit b || eqb b 95) field
 
+-- each number is less than the next
 unfoldable pub strictlyRising : List ℕ → Bool
 strictlyRising [] = true
 strictlyRising (i ∷ []) = true

@@ -14,8 +14,8 @@ use Rattle.format.specs.Tests.{rank}
 use Rattle.format.specs.Tables.{padded}
 use Rattle.format.specs.Judged.{Place, Outcome, next, refused, step, below, top, beginning, accepted, turnedDown, orNoClaim}
 use Rattle.tables.proofs.Indexing.{index-none}
-use Rattle.text.specs.Scan.{nextAt}
-use Rattle.text.proofs.Scan.{next-bounds, next-part, last-part}
+use Rattle.text.specs.Parts.{nextAt}
+use Rattle.text.proofs.PartLaws.{next-bounds, next-part, last-part}
 use Rattle.format.proofs.Stepping.{runFrom, answerFrom, run-next, answer-next, answer-refused, answer-stub, run-end, answer-end, answer-whole, step-refused}
 use Rattle.format.proofs.Beginnings.{step-good, good-start}
 use Rattle.judge.specs.Running.{place, Running, Advances}

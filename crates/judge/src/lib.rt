@@ -12,7 +12,8 @@ ghost use Rattle.judge.specs.Running.{Running, Advances};
 use lines::state::Counts;
 use lines::step_line;
 use tables::clear;
-use text::find;
+use text::parts::find;
+use text::refusals::BAD_LINE;
 
 // Refusal number and line; number 0 is acceptance, with the line of the claim.
 #[repr(C)]
@@ -61,7 +62,7 @@ fn advance(
     let end = find(text, at, 10);
     if end >= text.len() {
         return Advanced {
-            number: 3,
+            number: BAD_LINE,
             next: at,
             counts,
         };

@@ -1,7 +1,7 @@
 pub mod State
 pub mod Lined
-pub mod Entering
-pub mod Claiming
-pub mod Settling
-pub mod Drafts
 pub mod Stepping
+pub mod AtomLines
+pub mod FormulaLines
+pub mod RowLines
+pub mod ClaimLines

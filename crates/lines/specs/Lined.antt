@@ -1,25 +1,25 @@
--- What one line does to the tables and the counts, whatever its kind.
+-- What a line of one kind comes to: what every accepted beginning that the tables hold makes of it, and what holds in any tables.
+use Prim.Native.Nat.{ℕ, _≤_}
+use Prim.Native.String.{String}
 use mathlib.Core.Path.{_≡_}
 use mathlib.Core.List.{List, []}
-use Prim.Native.Nat.{ℕ}
-use Prim.Native.String.{String}
-use lib.ListN.{getD}
+use lib.ListN.{length, getD}
 use Rattle.format.specs.Text.{Bytes, bytes, fieldsOf}
 use Rattle.format.specs.File.{File}
-use Rattle.format.specs.Judged.{Outcome}
-use Rattle.lines.specs.State.{Contents, Steps}
-use Rattle.lines.specs.declared.state.Counts.{Counts}
+use Rattle.format.specs.Tables.{mostBytes}
+use Rattle.format.specs.Judged.{Place, step}
+use Rattle.format.specs.Good.{Good}
+use Rattle.lines.specs.State.{Contents, Stored, Steps, Keeps}
+use Rattle.lines.specs.declared.state.State.{State}
 use Rattle.lines.specs.declared.state.Stepped.{Stepped}
 
 -- the first field of the line is this word
 abbrev pub OfKind : String → Bytes → Type 0
 OfKind kind line = getD (fieldsOf line) 0 [] ≡ bytes kind
 
--- the line steps to this outcome, and where it is refused it leaves tables and counts as they were
-pub record Lined (text : Bytes) (outcome : Outcome File) (c : Counts) (r : Stepped) (before after : Contents) : Type 0 where
-  pub steps : Steps text outcome r after
-  pub kept : (r .number ≡ 0 → ⊥) → (after ≡ before) × (r .counts ≡ c)
-
--- the contents with other rows and pools
-abbrev pub withTables : Contents → List ℕ → List ℕ → List ℕ → Contents
-withTables t rows left right = record { names = t .names; formulas = t .formulas; words = t .words; rows = rows; left = left; right = right }
+-- the line of this number, which starts at this byte of the text
+pub record Lined (text : Bytes) (start : ℕ) (line : Bytes) (number : ℕ) (s : State) (r : Stepped) (t u : Contents) : Type 0 where
+  pub steps :
+      (f : File) (p : Place) (done : List Bytes) → Good done f → Stored text f s t → length text ≤ mostBytes → p .start ≡ start → p .line ≡ number
+      → Steps text (step f p line) r u
+  pub keeps : Keeps s r t u

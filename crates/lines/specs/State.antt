@@ -1,40 +1,48 @@
--- What the lent tables and the counts hold between two lines: the file that the accepted beginning comes to.
-use Prim.Native.Nat.{ℕ, _+_, _*_, _≤_}
+-- What the lent tables and the state hold between two lines: the file that the accepted beginning comes to.
+use Prim.Native.Nat.{ℕ, _≤_, _*_}
 use mathlib.Core.Path.{_≡_}
+use mathlib.Core.Bool.{Bool, not, _&&_, _||_}
 use mathlib.Core.List.{List}
 use mathlib.Core.Option.{Option, none, some}
-use lib.ListN.{length, take, drop}
+use lib.Dec.{eqb, ltb, leb}
+use lib.ListN.{length}
 use Rattle.equilibrium.specs.Meaning.{_∈_}
 use Rattle.format.specs.Text.{Bytes}
 use Rattle.format.specs.File.{Name, Claim, File}
-use Rattle.format.specs.Tables.{padded, joinAll, nameRecord, leftPool, rightPool, rowWidth, mostAtoms, mostFormulas, mostRows, mostEntries}
+use Rattle.format.specs.Tables.{padded, joinAll, nameRecord, nodeRecord, rowRecords, leftPool, rightPool, mostFormulas, Lent, least}
 use Rattle.format.specs.Tests.{rank}
 use Rattle.format.specs.Judged.{Outcome, next, refused}
-use Rattle.tables.specs.Index.{Indexed}
-use Rattle.rows.specs.Ground.{Formulas, Rows, AtomWords}
-use Rattle.lines.specs.declared.state.Counts.{Counts}
+use Rattle.tables.specs.Counts.{countsOf, noCounts}
+use Rattle.tables.specs.Known.{Known}
+use Rattle.tables.specs.Names.{StandsIn}
+use Rattle.tables.specs.declared.counts.Counts.{Counts}
+use Rattle.lines.specs.declared.state.State.{State}
 use Rattle.lines.specs.declared.state.Stepped.{Stepped}
+
+abbrev pub start : State
+start = record { counts = noCounts; stage = 0; claim = 0 }
+
+-- a refusal: the number, the line that it belongs to, and the state as it was
+abbrev pub refusedBy : State → ℕ → ℕ → Stepped
+refusedBy s number line = record { number = number; line = line; state = s }
+
+-- the state after a line of this stage
+abbrev pub passedBy : State → Counts → ℕ → ℕ → Stepped
+passedBy s counts stage line = record { number = 0; line = line; state = record { counts = counts; stage = stage; claim = s .claim } }
+
+-- a line of the stage `next` may not follow, by the numbers of the stages
+unfoldable pub outOfTurn : ℕ → ℕ → Bool
+outOfTurn stage next = not (leb stage next && ltb stage 3)
+
+-- the same, or its number is not the next one
+unfoldable pub notNext : ℕ → ℕ → ℕ → ℕ → Bool
+notNext stage next held number = outOfTurn stage next || not (eqb number held)
 
 abbrev pub claimLine : Option Claim → ℕ
 claimLine none = 0
 claimLine (some c) = c .line
 
--- the counts of a file
-pub record Counted (f : File) (c : Counts) : Type 0 where
-  pub atoms : c .atoms ≡ f .body .atoms
-  pub names : c .atoms ≡ length (f .names)
-  pub formulas : c .formulas ≡ length (f .body .nodes)
-  pub rows : c .rows ≡ length (f .body .rows)
-  pub left : c .left ≡ length (leftPool (f .body .rows))
-  pub right : c .right ≡ length (rightPool (f .body .rows))
-  pub stage : c .stage ≡ rank (f .stage)
-  pub claim : c .claim ≡ claimLine (f .claim)
-
--- each name stands in the text at its start
-abbrev pub NamesIn : Bytes → List Name → Type 0
-NamesIn text names = (n : Name) → n ∈ names → (n .start + length (n .name) ≤ length text) × (take (length (n .name)) (drop (n .start) text) ≡ n .name)
-
--- the contents of the lent tables, and of the words: the atoms of each formula, and the index of the formulas
+-- the contents of the lent tables, and of the words in which it is kept what is known of the formulas
 pub record Contents : Type 0 where
   pub names : List ℕ
   pub formulas : List ℕ
@@ -43,29 +51,51 @@ pub record Contents : Type 0 where
   pub left : List ℕ
   pub right : List ℕ
 
+abbrev pub tables : List ℕ → List ℕ → List ℕ → List ℕ → List ℕ → List ℕ → Contents
+tables names formulas words rows left right = record { names = names; formulas = formulas; words = words; rows = rows; left = left; right = right }
+
 -- the tables are of full length
 pub record Full (t : Contents) : Type 0 where
-  pub names : 2 * mostAtoms ≤ length (t .names)
-  pub formulas : 3 * mostFormulas ≤ length (t .formulas)
+  pub names : least .names ≤ length (t .names)
+  pub formulas : least .formulas ≤ length (t .formulas)
   pub words : 3 * mostFormulas ≤ length (t .words)
-  pub rows : rowWidth * mostRows ≤ length (t .rows)
-  pub left : mostEntries ≤ length (t .left)
-  pub right : mostEntries ≤ length (t .right)
+  pub rows : least .rows ≤ length (t .rows)
+  pub left : least .left ≤ length (t .left)
+  pub right : least .right ≤ length (t .right)
 
--- the tables and the counts hold the file
-pub record Stored (text : Bytes) (f : File) (c : Counts) (t : Contents) : Type 0 where
+-- no length has changed
+pub record SameLengths (t u : Contents) : Type 0 where
+  pub names : length (u .names) ≡ length (t .names)
+  pub formulas : length (u .formulas) ≡ length (t .formulas)
+  pub words : length (u .words) ≡ length (t .words)
+  pub rows : length (u .rows) ≡ length (t .rows)
+  pub left : length (u .left) ≡ length (t .left)
+  pub right : length (u .right) ≡ length (t .right)
+
+-- the table holds these numbers, and zeros after them
+abbrev pub Exactly : List ℕ → List ℕ → Type 0
+Exactly held table = table ≡ padded (length table) held
+
+-- the state relation: the tables and the state hold the file, and zeros follow in each table
+pub record Stored (text : Bytes) (f : File) (s : State) (t : Contents) : Type 0 where
   pub full : Full t
-  pub counted : Counted f c
-  pub names-in : NamesIn text (f .names)
-  pub names : t .names ≡ padded (length (t .names)) (joinAll nameRecord (f .names))
-  pub formulas : Formulas (f .body) (t .formulas)
-  pub words : AtomWords (f .body) (t .words)
-  pub index : Indexed (f .body .nodes) (t .words)
-  pub rows : Rows (f .body) (t .rows) (t .left) (t .right)
-  pub room-left : c .left ≤ mostEntries
-  pub room-right : c .right ≤ mostEntries
+  pub counts : s .counts ≡ countsOf (f .body)
+  pub stage : s .stage ≡ rank (f .stage)
+  pub claim : s .claim ≡ claimLine (f .claim)
+  pub names-in : (n : Name) → n ∈ f .names → StandsIn text n
+  pub names : Exactly (joinAll nameRecord (f .names)) (t .names)
+  pub formulas : Exactly (joinAll nodeRecord (f .body .nodes)) (t .formulas)
+  pub known : Known (f .body) (t .words)
+  pub rows : Exactly (rowRecords (f .body .rows)) (t .rows)
+  pub left : Exactly (leftPool (f .body .rows)) (t .left)
+  pub right : Exactly (rightPool (f .body .rows)) (t .right)
 
--- what one line does: the file with the line is stored, or its number is given
+-- what one line does: the file with the line is stored, or its number and line are given
 abbrev pub Steps : Bytes → Outcome File → Stepped → Contents → Type 0
-Steps text (next f) r t = (r .number ≡ 0) × Stored text f (r .counts) t
-Steps text (refused n l) r t = (r .number ≡ n) × Full t
+Steps text (next f) r t = (r .number ≡ 0) × Stored text f (r .state) t
+Steps text (refused n l) r t = (r .number ≡ n) × (r .line ≡ l)
+
+-- what holds of a line in any tables: one that is refused leaves tables and state as they were, and no length changes
+pub record Keeps (s : State) (r : Stepped) (t u : Contents) : Type 0 where
+  pub kept : (r .number ≡ 0 → ⊥) → (u ≡ t) × (r .state ≡ s)
+  pub lengths : SameLengths t u

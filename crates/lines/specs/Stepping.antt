@@ -1,25 +1,18 @@
 -- What the judging of one line comes to, whatever its kind.
 use Prim.Native.Nat.{ℕ, _≤_}
 use mathlib.Core.Path.{_≡_}
-use mathlib.Core.List.{List}
 use lib.ListN.{length}
 use Rattle.format.specs.Text.{Bytes}
-use Rattle.format.specs.File.{File}
-use Rattle.format.specs.Tables.{mostBytes}
-use Rattle.format.specs.Judged.{Place, step}
-use Rattle.format.proofs.Beginnings.{Good}
-use Rattle.text.specs.Answers.{between}
-use Rattle.lines.specs.State.{Contents, Stored}
+use Rattle.text.specs.Parts.{between}
+use Rattle.text.specs.Refusals.{badLine}
+use Rattle.lines.specs.State.{refusedBy, Contents}
 use Rattle.lines.specs.Lined.{Lined}
-use Rattle.lines.specs.declared.state.Counts.{Counts}
+use Rattle.lines.specs.declared.state.State.{State}
 use Rattle.lines.specs.declared.state.Stepped.{Stepped}
 
-abbrev pub tables : List ℕ → List ℕ → List ℕ → List ℕ → List ℕ → List ℕ → Contents
-tables names formulas words rows left right = record { names = names; formulas = formulas; words = words; rows = rows; left = left; right = right }
-
--- a line of the text is judged by every accepted beginning that the tables hold; a place outside the text is a bad line
-pub record LineStepped (text : Bytes) (start end number : ℕ) (counts : Counts) (r : Stepped) (before after : Contents) : Type 0 where
-  pub inside :
-      (f : File) (p : Place) (done : List Bytes) → Good done f → Stored text f counts before → start ≤ end → end ≤ length text → length text ≤ mostBytes
-      → p .start ≡ start → p .line ≡ number → Lined text (step f p (between text start end)) counts r before after
-  pub outside : ((start ≤ end) × (end ≤ length text) → ⊥) → (r .number ≡ 3) × (r .counts ≡ counts) × (after ≡ before)
+-- A part of the text is judged as a line, by every accepted beginning that the tables hold; a place outside the text is a bad line.
+-- Where the tables hold no accepted beginning, it is free whether the line passes and what it is refused for; what `Keeps` says
+-- holds all the same.
+pub record LineStepped (text : Bytes) (start end number : ℕ) (s : State) (r : Stepped) (t u : Contents) : Type 0 where
+  pub inside : start ≤ end → end ≤ length text → Lined text start (between text start end) number s r t u
+  pub outside : ((start ≤ end) × (end ≤ length text) → ⊥) → (r ≡ refusedBy s badLine number) × (u ≡ t)

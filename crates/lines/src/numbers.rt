@@ -8,7 +8,8 @@ pub(crate) fn narrow(x: u32) -> u16
     (x % 65536) as u16
 }
 
-pub(crate) fn place(x: usize) -> u16
+// The same for places and lengths.
+pub(crate) fn narrow_place(x: usize) -> u16
     ensures { λ r. ⌜ r ≡ x % 65536 ⌝ }
 {
     (x % 65536) as u16

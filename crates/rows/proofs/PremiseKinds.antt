@@ -1,55 +1,28 @@
 -- The number and the kinds of a row's premises, and its principal formula, compared as numbers: what each test says of
 -- `wrongPremises`.
-use Prim.Native.Nat.{ℕ, zero, suc, _<_}
+use Prim.Native.Nat.{ℕ, suc, _<_}
 use native.Mathlib.Decide.{decLt}
 use native.Mathlib.Omega.{arith}
-use mathlib.Core.Bool.{Bool, true, false, not, _&&_, _||_, cond, or-true, and-false, false≢true}
-use mathlib.Core.List.{List, [], _∷_, _++_, map, List·Memᴰ·head, List·Memᴰ·tail}
+use mathlib.Core.Bool.{Bool, true, false, not, _&&_, _||_, or-true, and-false}
+use mathlib.Core.List.{List, [], _∷_, _++_, map}
 use mathlib.Core.Option.{Option, none, some}
 use mathlib.Core.Path.{_≡_, refl, sym, ap, ap₂, _∙_}
-use borrow.Author.Tests.{leb-false}
 use lib.ListN.{length, getD, length-map, List·getD-map}
-use Rattle.equilibrium.specs.Meaning.{_∈_}
 use Rattle.equilibrium.proofs.Sets.{dec-all, from-yes}
 use Rattle.elk.specs.Sequent.{Kind, elk, refutation}
-use Rattle.elk.specs.Rules.{Rule, entry, rules, codeOf, kindOf, hasPrincipal, premiseKinds}
+use Rattle.elk.specs.Rules.{Rule, entry, rules, kindOf, hasPrincipal, premiseKinds}
 use Rattle.elk.proofs.Faithful.{every-rule}
 use Rattle.format.specs.File.{Row, Body, sequentOf}
 use Rattle.format.specs.Tables.{absent, rowAt}
-use Rattle.format.specs.Tests.{first, notEarlier, unknownFormula, listed, referenceTests, sameKind, sameKinds, present, sameTruth, premisesOf, wrongPremises}
-use Rattle.format.proofs.Formulas.{known-earlier}
-use Rattle.format.proofs.Booleans.{or-false, or-false₄, and-true, not-false, any-false}
+use Rattle.format.specs.Tests.{sameKind, sameKinds, present, sameTruth, premisesOf, wrongPremises}
+use Rattle.format.proofs.GoodBodies.{in-getD}
+use Rattle.text.specs.Numbers.{principalAs}
 use Rattle.tables.specs.Records.{rowOf}
-use Rattle.rows.specs.Judgement.{Judging}
-use Rattle.rows.specs.RuleTable.{kindNumber, kindNumbers, truthNumber, ruleNumbers}
-use Rattle.rows.specs.declared.Draft.{Draft}
-use Rattle.rows.proofs.Reading.{rule-read}
-
--- what test 7 found earlier
-pub record Known (b : Body) (q : Row) : Type 0 where
-  pub principal : unknownFormula b (listed (q .principal)) ≡ false
-  pub premises : (i : ℕ) → i ∈ q .premises → i < length (b .rows)
-  pub left : unknownFormula b (q .left) ≡ false
-  pub right : unknownFormula b (q .right) ≡ false
-
-pub none-applies : (t : Bool) (n : ℕ) → cond t (some n) none ≡ none → t ≡ false
-none-applies true n e = let z : _≡_ {A = ℕ} 0 1 = cc in absurd (omega arith)
-none-applies false n e = refl
-
-pub known : (b : Body) (q : Row) → first (referenceTests b q) ≡ none → Known b q
-known b q e =
-    let f = or-false₄ _ _ _ _ (none-applies _ 7 e) in
-    record {
-      principal = f .0;
-      premises = λ i m. leb-false (length (b .rows)) i (any-false (notEarlier (length (b .rows))) (q .premises) (f .1) i m);
-      left = f .2;
-      right = f .3;
-    }
-
-pub getD-in : {X : Type 0} (xs : List X) (k : ℕ) (d : X) → k < length xs → getD xs k d ∈ xs
-getD-in [] k d h = absurd (omega arith)
-getD-in (x ∷ xs) zero d h = List·Memᴰ·head refl
-getD-in (x ∷ xs) (suc k) d h = List·Memᴰ·tail (getD-in xs k d (omega arith))
+use Rattle.tables.proofs.Encoded.{rule-held}
+use Rattle.rules.specs.RuleTable.{kindNumber, kindNumbers, truthNumber, ruleNumbers, ruleNumber}
+use Rattle.rules.proofs.RuleNumbers.{rule-number}
+use Rattle.rows.specs.Judging.{namedOf, Judging}
+use Rattle.rows.specs.declared.draft.Draft.{Draft}
 
 -- the kinds of the premises
 abbrev pub kindsOf : Body → Row → List Kind
@@ -152,17 +125,28 @@ truth-differs false false n = absurd (n refl)
 abbrev pub premiseRow : Body → Row → ℕ → Row
 premiseRow b q k = getD (b .rows) (getD (q .premises) k absent) q
 
--- where a row is judged: its principal formula is not numbered like an absent one, and the record of a premise has its rule
-module _ {b : Body} {q : Row} {formulas rows leftPool rightPool left right : List ℕ} {d : Draft} (j : Judging b q formulas rows leftPool rightPool d left right) where
-  pub not-absent : q .principal ≡ some absent → ⊥
-  not-absent e =
-      omega (arith, j .formulas-held .held .few-nodes, known-earlier b (absent ∷ []) (ap (λ (p : Option ℕ). unknownFormula b (listed p)) (sym e) ∙ known b q (j .references) .principal) absent (List·Memᴰ·head refl))
+-- the numbers of a row's rule, and of a row of the body
+module _ {b : Body} {q : Row} {formulas words rows leftPool rightPool left right : List ℕ} {d : Draft}
+    (j : Judging b q formulas words rows leftPool rightPool d left right) where
+  pub asked-number : (at : ℕ) → at < 18 → ruleNumber (d .rule) at ≡ getD (ruleNumbers (q .rule)) at 0
+  asked-number at h = ap (λ (code : ℕ). ruleNumber code at) (sym (j .rule)) ∙ rule-number (q .rule) at h
+
+  pub named-principal : namedOf (d .principal) ≡ truthNumber (present (q .principal))
+  named-principal = ap namedOf (j .principal) ∙ named (q .principal)
+    where
+      named : (p : Option ℕ) → namedOf (principalAs (some p)) ≡ truthNumber (present p)
+      named none = refl
+      named (some i) = refl
 
   pub premise-earlier : (k : ℕ) → k < length (q .premises) → getD (q .premises) k absent < length (b .rows)
-  premise-earlier k h = known b q (j .references) .premises (getD (q .premises) k absent) (getD-in (q .premises) k absent h)
+  premise-earlier k h = j .premises-earlier (getD (q .premises) k absent) (in-getD (q .premises) k absent h)
 
-  pub premise-rule : (k i : ℕ) → k < length (q .premises) → getD (q .premises) k absent ≡ i → codeOf (premiseRow b q k .rule) ≡ rowOf (rowAt rows i) .rule
-  premise-rule k i h e = sym (rule-read (j .rows-held) (getD (q .premises) k absent) (premise-earlier k h) q) ∙ ap (λ (n : ℕ). rowOf (rowAt rows n) .rule) e
+  pub premise-kind : (k i : ℕ) → k < length (q .premises) → getD (q .premises) k absent ≡ i
+      → ruleNumber (rowOf (rowAt rows i) .rule) 1 ≡ kindNumber (kindOf (entry (premiseRow b q k .rule)))
+  premise-kind k i h e =
+      ap (λ (n : ℕ). ruleNumber (rowOf (rowAt rows n) .rule) 1) (sym e)
+      ∙ ap (λ (code : ℕ). ruleNumber code 1) (rule-held (j .rows-held) (getD (q .premises) k absent) q (premise-earlier k h))
+      ∙ rule-number (premiseRow b q k .rule) 1 (omega arith)
 
 -- the number of the kind of premise k
 abbrev pub premiseKind : Body → Row → ℕ → ℕ
@@ -221,29 +205,3 @@ module _ (b : Body) (q : Row) where
   pub wrong-count : (length (q .premises) ≡ length (premiseKinds (entry (q .rule))) → ⊥) → wrongPremises b q ≡ true
   unfolding asked
   wrong-count n = kinds-differ (count-differs past (kindsOf b q) asked (λ e. n (sym counted ∙ e)))
-
--- What number 10 passed: the principal formula is there exactly if the rule has one, and the premises are of its kinds.
-same-truth : (t u : Bool) → sameTruth t u ≡ true → t ≡ u
-same-truth true u e = sym e
-same-truth false true e = absurd (false≢true e)
-same-truth false false e = refl
-
-same-kinds : (js ks : List Kind) → sameKinds js ks ≡ true → js ≡ ks
-same-kinds [] [] e = refl
-same-kinds [] (k ∷ ks) e = absurd (false≢true e)
-same-kinds (j ∷ js) [] e = absurd (false≢true e)
-same-kinds (j ∷ js) (k ∷ ks) e =
-    let both = and-true (sameKind j k) (sameKinds js ks) e in
-    ap₂ _∷_ (same-kind j k (both .0)) (same-kinds js ks (both .1))
-  where
-    same-kind : (j k : Kind) → sameKind j k ≡ true → j ≡ k
-    same-kind elk elk e = refl
-    same-kind elk refutation e = absurd (false≢true e)
-    same-kind refutation elk e = absurd (false≢true e)
-    same-kind refutation refutation e = refl
-
-pub right-premises : (b : Body) (q : Row) → wrongPremises b q ≡ false → (present (q .principal) ≡ hasPrincipal (entry (q .rule))) × (kindsOf b q ≡ premiseKinds (entry (q .rule)))
-unfolding wrongPremises
-right-premises b q e =
-    let both = or-false (not (sameTruth (present (q .principal)) (hasPrincipal (entry (q .rule))))) (not (sameKinds (kindsOf b q) (premiseKinds (entry (q .rule))))) e in
-    (same-truth (present (q .principal)) (hasPrincipal (entry (q .rule))) (not-false _ (both .0)), same-kinds (kindsOf b q) (premiseKinds (entry (q .rule))) (not-false _ (both .1)))

@@ -1,44 +1,67 @@
--- The judgement of one row (paper 01, numbers 10 and 11), by tables that hold an accepted beginning.
-use Prim.Native.Nat.{ℕ}
+-- The judgement of one row (paper 01, numbers 5 to 11), by tables that begin with a good body: what stands after it does not matter.
+use Prim.Native.Nat.{ℕ, _≤_}
 use mathlib.Core.Path.{_≡_}
-use mathlib.Core.List.{List}
+use mathlib.Core.List.{List, [], _∷_, _++_}
+use mathlib.Core.Logic.{_↔_}
 use mathlib.Core.Option.{Option, none, some}
-use lib.ListN.{length, getD}
+use lib.ListN.{length, getD, take}
+use Rattle.equilibrium.specs.Meaning.{_∈_}
 use Rattle.elk.specs.Rules.{codeOf}
-use Rattle.elk.specs.Instance.{Instance}
-use Rattle.format.specs.Text.{_<$>_}
-use Rattle.format.specs.File.{Row, Body, decodedAt, sequentOf}
-use Rattle.format.specs.Tables.{absent, orAbsent}
-use Rattle.format.specs.Tests.{first, referenceTests, sideTests, premisesOf}
-use Rattle.rows.specs.Ground.{Formulas, Rows}
-use Rattle.rows.specs.declared.Draft.{Draft}
-use Rattle.rows.specs.declared.Verdict.{Verdict}
-use Rattle.rows.specs.declared.Verdict.the-variants.{Passes, WrongPremises, WrongStep}
+use Rattle.format.specs.File.{Row, Body}
+use Rattle.format.specs.Tables.{absent, mostOnSide}
+use Rattle.format.specs.Tests.{Test, first, roomTests, referenceTests, sideTests, bodyTests}
+use Rattle.format.specs.Good.{GoodBody}
+use Rattle.format.specs.Passing.{RowInstance}
+use Rattle.text.specs.Numbers.{principalAs}
+use Rattle.text.specs.Lists.{listedAs}
+use Rattle.text.specs.declared.lists.Listed.{Listed}
+use Rattle.tables.specs.Counts.{countsOf}
+use Rattle.tables.specs.Holding.{HoldsNodes, HoldsRows}
+use Rattle.tables.specs.Known.{Known}
+use Rattle.tables.specs.declared.counts.Counts.{Counts}
+use Rattle.rows.specs.Early.{earlyOf, numbered}
+use Rattle.rows.specs.declared.draft.Draft.{Draft}
 
--- the row as it was read: its numbers, and its sides
+-- each number of the list is one of 16 bits
+abbrev pub Narrow : List ℕ → Type 0
+Narrow xs = (x : ℕ) → x ∈ xs → x ≤ absent
+
+-- a list as it was read: what is known of it, and a table that begins with it, where it is short enough for a side
+pub record Laid (xs : List ℕ) (listed : Listed) (table : List ℕ) : Type 0 where
+  pub answer : listed ≡ listedAs (some xs)
+  pub front : length xs ≤ mostOnSide → Narrow xs → take (length xs) table ≡ xs
+
+-- the draft and these tables are the row as it was read
 pub record Drafted (r : Row) (d : Draft) (left right : List ℕ) : Type 0 where
-  pub rule : codeOf (r .rule) ≡ d .rule
-  pub principal : orAbsent (r .principal) ≡ d .principal
-  pub premises : length (r .premises) ≡ d .premises
-  pub first-premise : getD (r .premises) 0 absent ≡ d .first
-  pub second-premise : getD (r .premises) 1 absent ≡ d .second
-  pub left-side : r .left ≡ left
-  pub right-side : r .right ≡ right
+  pub rule : d .rule ≡ codeOf (r .rule)
+  pub principal : d .principal ≡ principalAs (some (r .principal))
+  pub premises : d .premises ≡ listedAs (some (r .premises))
+  pub first-premise : Narrow (r .premises) → d .first ≡ getD (r .premises) 0 absent
+  pub second-premise : Narrow (r .premises) → d .second ≡ getD (r .premises) 1 absent
+  pub left-laid : Laid (r .left) (d .left) left
+  pub right-laid : Laid (r .right) (d .right) right
 
--- a row that passed the numbers below 10, and the tables that it is judged by
-pub record Judging (b : Body) (r : Row) (formulas rows leftPool rightPool : List ℕ) (d : Draft) (left right : List ℕ) : Type 0 where
-  pub formulas-held : Formulas b formulas
-  pub rows-held : Rows b rows leftPool rightPool
-  pub drafted : Drafted r d left right
-  pub references : first (referenceTests b r) ≡ none
-  pub sides : first (sideTests (r .left) (r .right)) ≡ none
+-- the tables, and what is known of the formulas, are those of a good body with these counts
+pub record Ground (b : Body) (c : Counts) (formulas words rows left right : List ℕ) : Type 0 where
+  pub good : GoodBody b
+  pub counts : c ≡ countsOf b
+  pub nodes : HoldsNodes (b .nodes) formulas
+  pub known : Known b words
+  pub rows-held : HoldsRows (b .rows) rows left right
 
--- the row is an instance of its rule with its premises
-abbrev pub RowInstance : Body → Row → Type 0
-RowInstance b r = Instance (r .rule) (decodedAt (b .nodes) <$> r .principal) (premisesOf b r) (sequentOf (b .nodes) r)
+-- the tests before the rule's own
+abbrev pub earlyTests : Body → Row → List Test
+earlyTests b r = roomTests b r ++ referenceTests b r ++ sideTests (r .left) (r .right)
 
--- 01's number of each answer, none where the row passes
-abbrev pub numberOf : Verdict → Option ℕ
-numberOf Passes = none
-numberOf WrongPremises = some 10
-numberOf WrongStep = some 11
+-- The number of a row. For every good body that the tables begin with it is the first that applies, and the row passes exactly
+-- when it passes the tests before its rule and is an instance. In any tables 5, 7 and 9 are given by the draft and the counts;
+-- where the tables hold no body, which of 0, 10 and 11 comes after these is free.
+pub record RowNumbered (d : Draft) (c : Counts) (left right formulas words rows leftPool rightPool : List ℕ) (number : ℕ) : Type 0 where
+  pub given :
+      (b : Body) (r : Row) → Ground b c formulas words rows leftPool rightPool → Drafted r d left right
+      → numbered number ≡ first (bodyTests b r)
+  pub passes :
+      (b : Body) (r : Row) → Ground b c formulas words rows leftPool rightPool → Drafted r d left right
+      → (number ≡ 0) ↔ ((first (earlyTests b r) ≡ none) × RowInstance b r)
+  pub early : (n : ℕ) → first (earlyOf d c) ≡ some n → number ≡ n
+  pub late : first (earlyOf d c) ≡ none → number ∈ 0 ∷ 10 ∷ 11 ∷ []

@@ -1,10 +1,3 @@
-pub mod Ground
-pub mod RuleTable
-pub mod Numbers
-pub mod Principal
+pub mod Early
 pub mod Judgement
-pub mod Schemas
-pub mod Cut
-pub mod Shapes
-pub mod Literals
-pub mod Unstable
+pub mod Judging

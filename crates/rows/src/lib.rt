@@ -1,81 +1,32 @@
-// One row of a derivation judged by the tables of an accepted beginning: the number and kinds of its premises (10), and
-// whether it is an instance of its rule (11). Every function takes tables of any contents; the contracts say what the
-// answer is where the tables hold a body.
-pub mod cut;
-pub mod fit;
-pub mod literals;
-pub mod numbers;
-pub mod parts;
-pub mod premises;
-pub mod rules;
-pub mod schema;
-pub mod shapes;
-pub mod unstable;
+// One row of a derivation judged by tables that begin with a good body: room for it (5), what it refers to (7), its sides (9), its
+// premises (10), and whether it is an instance of its rule (11). Nothing is stored, and what stands after the body does not matter.
+pub mod draft;
+pub mod early;
+mod premises;
+mod step;
 
 ghost use mathlib.Core.Path.{_≡_};
 ghost use Rattle.format.specs.File.{Row, Body};
-ghost use mathlib.Core.Bool.{false};
-ghost use Rattle.format.specs.Tests.{first, wrongPremises, ruleTests};
-ghost use Rattle.rows.specs.Ground.{AtomWords};
-ghost use Rattle.rows.specs.Judgement.{Judging, RowInstance, numberOf};
-ghost use Rattle.rows.specs.Numbers.{Decides};
-use cut::cut_step;
-use literals::default_step;
-use literals::initial_step;
+ghost use Rattle.format.specs.Tests.{first, ruleTests};
+ghost use Rattle.rows.specs.Judgement.{RowNumbered};
+ghost use Rattle.rows.specs.Judging.{Judging, numberOf};
+use draft::Draft;
+use early::early_number;
 use premises::wrong_premises;
-use rules::STEP;
-use rules::rule_number;
-use schema::schema_step;
-use unstable::unstable_step;
+use step::step_holds;
+use tables::counts::Counts;
+use tables::records::front;
 
-// A row as it was read, but for its sides: 65,535 where the principal formula or a premise is absent.
-pub struct Draft {
-    pub rule: u16,
-    pub principal: u16,
-    pub premises: usize,
-    pub first: u16,
-    pub second: u16,
-}
-
-pub enum Verdict {
+enum Verdict {
     Passes,
     WrongPremises,
     WrongStep,
 }
 
-// Whether the row is an instance of its rule.
-fn step_holds<'a>(
+// A row that passed the numbers before its rule.
+fn judge_row<'a>(
     formulas: &[u16],
-    atoms: &[u64],
-    rows: &[u16],
-    left: &'a [u16],
-    right: &'a [u16],
-    draft: Draft,
-    antecedent: &[u16],
-    succedent: &[u16],
-) -> bool
-    ensures { λ r. ⌜ ((b : Body) (q : Row) → Judging b q (now (formulas .entry)) (now (rows .entry)) (now (left .entry)) (now (right .entry)) draft (now (antecedent .entry)) (now (succedent .entry)) → AtomWords b (now (atoms .entry)) → wrongPremises b q ≡ false → Decides (RowInstance b q) r) ⌝ }
-{
-    let step = rule_number(draft.rule, STEP);
-    if step < 10 {
-        return schema_step(formulas, rows, left, right, draft, antecedent, succedent);
-    }
-    if step == 10 {
-        return default_step(formulas, draft.principal, antecedent, succedent);
-    }
-    if step == 11 {
-        return cut_step(rows, left, right, draft, antecedent, succedent);
-    }
-    if step == 12 {
-        return unstable_step(formulas, atoms, rows, left, right, draft, antecedent);
-    }
-    initial_step(formulas, antecedent, succedent)
-}
-
-// The answer to a row with these sides.
-pub fn judge_row<'a>(
-    formulas: &[u16],
-    atoms: &[u64],
+    words: &[u64],
     rows: &[u16],
     left: &'a [u16],
     right: &'a [u16],
@@ -83,14 +34,17 @@ pub fn judge_row<'a>(
     antecedent: &[u16],
     succedent: &[u16],
 ) -> Verdict
-    ensures { λ v. ⌜ ((b : Body) (q : Row) → Judging b q (now (formulas .entry)) (now (rows .entry)) (now (left .entry)) (now (right .entry)) draft (now (antecedent .entry)) (now (succedent .entry)) → AtomWords b (now (atoms .entry)) → numberOf v ≡ first (ruleTests b q)) ⌝ }
+    ensures { λ v. ⌜ ((b : Body) (q : Row)
+        → Judging b q (now (formulas .entry)) (now (words .entry)) (now (rows .entry)) (now (left .entry)) (now (right .entry)) draft
+        (now (antecedent .entry)) (now (succedent .entry))
+        → numberOf v ≡ first (ruleTests b q)) ⌝ }
 {
     if wrong_premises(rows, draft) {
         return Verdict::WrongPremises;
     }
     if step_holds(
         formulas,
-        atoms,
+        words,
         rows,
         left,
         right,
@@ -101,4 +55,42 @@ pub fn judge_row<'a>(
         return Verdict::Passes;
     }
     Verdict::WrongStep
+}
+
+// The number of a row as it was read, with the tables that its sides were read into: the first that applies, 0 if none does.
+pub fn row_number<'a>(
+    draft: Draft,
+    antecedent: &[u16],
+    succedent: &[u16],
+    formulas: &[u16],
+    words: &[u64],
+    rows: &[u16],
+    left: &'a [u16],
+    right: &'a [u16],
+    counts: Counts,
+) -> u32
+    ensures { λ r. ⌜ RowNumbered draft counts (now (antecedent .entry)) (now (succedent .entry)) (now (formulas .entry))
+        (now (words .entry)) (now (rows .entry)) (now (left .entry)) (now (right .entry)) r ⌝ }
+{
+    let early = early_number(draft, counts);
+    if early != 0 {
+        return early;
+    }
+    let l = draft.left;
+    let r = draft.right;
+    let verdict = judge_row(
+        formulas,
+        words,
+        rows,
+        left,
+        right,
+        draft,
+        front(antecedent, l.count),
+        front(succedent, r.count),
+    );
+    match verdict {
+        Verdict::Passes => 0,
+        Verdict::WrongPremises => 10,
+        Verdict::WrongStep => 11,
+    }
 }

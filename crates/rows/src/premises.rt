@@ -1,41 +1,42 @@
 // The number and the kinds of a row's premises, and its principal formula, against what its rule asks (number 10).
 ghost use mathlib.Core.Path.{_≡_};
 ghost use mathlib.Core.List.{List};
-ghost use mathlib.Core.Option.{Option, some};
 ghost use Prim.Native.Nat.{ℕ};
 ghost use Rattle.elk.specs.Rules.{Rule, entry, codeOf, kindOf};
 ghost use Rattle.format.specs.File.{Row, Body};
-ghost use Rattle.format.specs.Tables.{absent, orAbsent, rowAt};
-ghost use Rattle.format.specs.Tests.{present, wrongPremises};
+ghost use Rattle.format.specs.Tables.{rowAt};
+ghost use Rattle.format.specs.Tests.{wrongPremises};
 ghost use Rattle.tables.specs.Records.{rowOf};
-ghost use Rattle.rows.specs.Judgement.{Judging};
-ghost use Rattle.rows.specs.RuleTable.{kindNumber, truthNumber};
-use crate::Draft;
-use crate::rules::FIRST_KIND;
-use crate::rules::KIND;
-use crate::rules::PREMISES;
-use crate::rules::PRINCIPAL;
-use crate::rules::SECOND_KIND;
-use crate::rules::rule_number;
+ghost use Rattle.rules.specs.RuleTable.{kindNumber, ruleNumber};
+ghost use Rattle.rows.specs.Judging.{namedOf, Judging};
+use crate::draft::Draft;
+use rules::FIRST_KIND;
+use rules::KIND;
+use rules::PREMISES;
+use rules::PRINCIPAL;
+use rules::SECOND_KIND;
+use rules::rule_number;
 use tables::records::row;
 use tables::records::wide;
+use text::numbers::Optional;
 
 // The number of a row's kind: 0 for ELK, 1 for refutation.
 fn kind_of(rows: &[u16], i: u16) -> u8
-    ensures { λ r. ⌜ ((s : Rule) → codeOf s ≡ rowOf (rowAt (now (rows .entry)) i) .rule → r ≡ kindNumber (kindOf (entry s))) ⌝ }
+    ensures { λ r. ⌜ r ≡ ruleNumber (rowOf (rowAt (now (rows .entry)) i) .rule) 1 ⌝ }
 {
     let record = row(rows, wide(i));
     rule_number(record.rule, KIND)
 }
 
 // 1 where there is a principal formula, and 0 where there is none.
-fn named(principal: u16) -> u8
-    ensures { λ r. ⌜ ((p : Option ℕ) → orAbsent p ≡ principal → (p ≡ some absent → ⊥) → r ≡ truthNumber (present p)) ⌝ }
+fn named(principal: Optional) -> u8
+    ensures { λ r. ⌜ r ≡ namedOf principal ⌝ }
 {
-    if principal == 65535 {
-        return 0;
+    match principal {
+        Optional::Absent => 0,
+        Optional::Value(_) => 1,
+        Optional::Bad => 0,
     }
-    1
 }
 
 // A number of the rule table, as a count.
@@ -46,15 +47,18 @@ fn count(x: u8) -> usize
 }
 
 // Whether number 10 applies.
-pub fn wrong_premises(rows: &[u16], draft: Draft) -> bool
-    ensures { λ r. ⌜ ((b : Body) (q : Row) (formulas leftPool rightPool left right : List ℕ) → Judging b q formulas (now (rows .entry)) leftPool rightPool draft left right → r ≡ wrongPremises b q) ⌝ }
+pub(crate) fn wrong_premises(rows: &[u16], draft: Draft) -> bool
+    ensures { λ r. ⌜ ((b : Body) (q : Row) (formulas words leftPool rightPool left right : List ℕ)
+        → Judging b q formulas words (now (rows .entry)) leftPool rightPool draft left right → r ≡ wrongPremises b q) ⌝ }
 {
     let rule = draft.rule;
-    if named(draft.principal) != rule_number(rule, PRINCIPAL) {
+    let principal = draft.principal;
+    let held = draft.premises;
+    if named(principal) != rule_number(rule, PRINCIPAL) {
         return true;
     }
     let premises = count(rule_number(rule, PREMISES));
-    if draft.premises != premises {
+    if held.count != premises {
         return true;
     }
     if premises == 0 {
@@ -66,8 +70,5 @@ pub fn wrong_premises(rows: &[u16], draft: Draft) -> bool
     if premises == 1 {
         return false;
     }
-    if kind_of(rows, draft.second) != rule_number(rule, SECOND_KIND) {
-        return true;
-    }
-    false
+    kind_of(rows, draft.second) != rule_number(rule, SECOND_KIND)
 }

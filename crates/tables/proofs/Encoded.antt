@@ -3,20 +3,21 @@
 use Prim.Native.Nat.{ℕ, suc, _+_, _-_, _*_, _≤_, _<_}
 use native.Mathlib.Nat.{le-of-lt, add-comm, mul-zero, mul-suc}
 use native.Mathlib.Omega.{arith}
-use mathlib.Core.Bool.{Bool, cond, _&&_, _||_}
+use mathlib.Core.Bool.{Bool, cond, _&&_}
 use mathlib.Core.List.{List, [], _∷_, _++_, map, append-assoc, append-nil, List·Memᴰ·head, List·Memᴰ·tail}
+use mathlib.Core.Option.{Option, some}
 use mathlib.Core.Path.{_≡_, refl, sym, ap, ap₂, _∙_}
 use borrow.Author.Tests.{le-leb}
 use lib.ListN.{length, getD, take, drop, replicate, length-append}
 use lib.Seq.{split-at, length-take-le, take-at, drop-at}
 use Rattle.equilibrium.specs.Meaning.{_∈_}
-use Rattle.format.specs.Text.{Bytes, any, sameList}
+use Rattle.format.specs.Text.{Bytes, sameList}
 use Rattle.format.specs.File.{Node, Row, Name}
 use Rattle.elk.specs.Rules.{codeOf}
 use Rattle.format.specs.Tables.{Side, fetched, part, rowAt, padded, joinAll, nodeRecord, nameRecord, nameWidth, nodeWidth, rowWidth, rowRecord, recordsAfter, rowRecords}
-use Rattle.tables.specs.Records.{onSide, written, nodeAt, nodeOf, rowOf}
+use Rattle.tables.specs.Records.{onSide, written, nodeAt, rowOf}
 use Rattle.tables.specs.Holding.{Begins, HoldsNodes, HoldsRows}
-use Rattle.tables.specs.Lookups.{firstRecords, spelled, spelledBy, nameUsed, StandsIn, atomsOf, atomsByRecord, nodeAtoms}
+use Rattle.tables.specs.Names.{firstRecords, spelled, spelledBy, placeFrom, placeOf, StandsIn}
 use Rattle.tables.proofs.Placed.{part-between, written-padded}
 
 -- a table with zeros after what it holds begins with it
@@ -76,10 +77,6 @@ module _ {A : Type 0} (f : A → List ℕ) where
         ∙ part-between (joinAll f (take i xs)) (f (getD xs i d)) (joinAll f (drop (suc i) xs) ++ rest) (width * i) width
         (joined-length (take i xs) ∙ ap (λ (k : ℕ). width * k) (length-take-le i xs (le-of-lt h))) (same (getD xs i d))
 
-any-map : {A B : Type 0} (test : B → Bool) (f : A → B) (xs : List A) → any test (map f xs) ≡ any (λ x. test (f x)) xs
-any-map test f [] = refl
-any-map test f (x ∷ xs) = ap (λ (t : Bool). test (f x) || t) (any-map test f xs)
-
 -- formulas
 
 node-width : (m : Node) → length (nodeRecord m) ≡ nodeWidth
@@ -99,38 +96,30 @@ pub node-held : {nodes : List Node} {table : List ℕ} → HoldsNodes nodes tabl
 node-held {nodes} b i d h =
     ap (λ (t : List ℕ). nodeAt t i) (b .records .whole) ∙ record-at nodeRecord nodeWidth node-width nodes i d (b .records .rest) h
 
-pub atoms-held : {nodes : List Node} {table : List ℕ} → HoldsNodes nodes table → (atoms : List ℕ) (i : ℕ) (d : Node) → i < length nodes
-    → nodeAtoms table atoms i ≡ atomsOf atoms (getD nodes i d)
-unfolding atomsByRecord atomsOf
-atoms-held {nodes} b atoms i d h = ap (λ (numbers : List ℕ). atomsByRecord atoms (nodeOf numbers)) (node-held b i d h) ∙ by-node (getD nodes i d)
-  where
-    by-node : (m : Node) → atomsByRecord atoms (nodeOf (nodeRecord m)) ≡ atomsOf atoms m
-    by-node Node.bot = refl
-    by-node (Node.atom k) = refl
-    by-node (Node.not i) = refl
-    by-node (Node.and i j) = refl
-    by-node (Node.or i j) = refl
-    by-node (Node.imp i j) = refl
-
 -- names
 
 pub names-length : (names : List Name) → length (joinAll nameRecord names) ≡ nameWidth * length names
 names-length = joined-length nameRecord nameWidth (λ m. refl)
 
-pub used-encoded : (n : ℕ) (text : Bytes) (names : List Name) (name : Bytes) → ((m : Name) → m ∈ names → StandsIn text m)
-    → nameUsed text (padded n (joinAll nameRecord names)) (length names) name ≡ any (λ m. sameList (m .name) name) names
+-- among names that stand in the text where their records say, a name is found by its spelling
+pub name-found : (text : Bytes) (names : List Name) (table : List ℕ) (name : Bytes) → ((m : Name) → m ∈ names → StandsIn text m)
+    → Begins (joinAll nameRecord names) table
+    → placeOf (spelledBy text name) (firstRecords nameWidth (length names) table) ≡ placeOf (λ m. sameList (m .name) name) names
 unfolding spelled
-used-encoded n text names name stands =
-    ap (any (spelledBy text name)) (records-joined nameRecord nameWidth (λ m. refl) names (replicate (n - length (joinAll nameRecord names)) 0))
-    ∙ any-map (spelledBy text name) nameRecord names
-    ∙ each names stands
+name-found text names table name stands held =
+    ap (λ (t : List ℕ). placeOf (spelledBy text name) (firstRecords nameWidth (length names) t)) (held .whole)
+    ∙ ap (placeOf (spelledBy text name)) (records-joined nameRecord nameWidth (λ m. refl) names (held .rest))
+    ∙ each 0 names stands
   where
     spelled-there : (m : Name) → StandsIn text m → spelled text (m .start) (length (m .name)) name ≡ sameList (m .name) name
     spelled-there m s = ap₂ (λ (b : Bool) (l : Bytes). b && sameList l name) (le-leb _ _ (s .inside)) (s .there)
 
-    each : (ms : List Name) → ((m : Name) → m ∈ ms → StandsIn text m) → any (λ m. spelledBy text name (nameRecord m)) ms ≡ any (λ m. sameList (m .name) name) ms
-    each [] h = refl
-    each (m ∷ ms) h = ap₂ _||_ (spelled-there m (h m (List·Memᴰ·head refl))) (each ms (λ k in-ms. h k (List·Memᴰ·tail in-ms)))
+    each : (k : ℕ) (ms : List Name) → ((m : Name) → m ∈ ms → StandsIn text m)
+        → placeFrom k (spelledBy text name) (map nameRecord ms) ≡ placeFrom k (λ m. sameList (m .name) name) ms
+    each k [] h = refl
+    each k (m ∷ ms) h =
+        ap₂ (λ (b : Bool) (o : Option ℕ). cond b (some k) o) (spelled-there m (h m (List·Memᴰ·head refl)))
+        (each (suc k) ms (λ n in-ms. h n (List·Memᴰ·tail in-ms)))
 
 -- rows
 

@@ -1,14 +1,27 @@
--- Two lists compared number by number: what each turn of such a loop, and each way out of it, says of `sameList`. Assumes nothing.
+-- Lists compared: what `sameList` decides, and what each turn of a loop that compares number by number, and each way out of it,
+-- says of it. Assumes nothing.
 use Prim.Native.Nat.{ℕ, _+_, _≤_, _<_}
 use native.Mathlib.Numerals.{add-one}
 use mathlib.Core.Bool.{Bool, true, false, _&&_}
 use mathlib.Core.List.{List}
-use mathlib.Core.Path.{_≡_, ap, ap₂, _∙_}
+use mathlib.Core.Logic.{_↔_}
+use mathlib.Core.Path.{_≡_, refl, ap, ap₂, subst, _∙_}
 use borrow.Author.Tests.{eq-eqb, ne-eqb}
 use lib.Dec.{eqb}
 use lib.ListN.{length, getD, drop, drop-of-length-le}
 use lib.Seq.{drop-cons}
 use Rattle.format.specs.Text.{sameList}
+use Rattle.format.proofs.Booleans.{same-list, list-same}
+
+pub same-iff : (a b : List ℕ) → (sameList a b ≡ true) ↔ (a ≡ b)
+same-iff a b = (same-list a b, λ e. subst (λ (l : List ℕ). sameList a l ≡ true) e (list-same a))
+
+pub same-false : (a b : List ℕ) → (a ≡ b → ⊥) → sameList a b ≡ false
+same-false a b n = by (sameList a b) refl
+  where
+    by : (t : Bool) → sameList a b ≡ t → t ≡ false
+    by true e = absurd (n (same-iff a b .0 e))
+    by false e = refl
 
 module _ (a b : List ℕ) (i : ℕ) where
   -- past the end of both

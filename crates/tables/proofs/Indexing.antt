@@ -15,8 +15,8 @@ use Rattle.format.specs.Tables.{nodeRecord}
 use Rattle.tables.specs.Records.{nodeAt, nodeOf, nodeNumbers}
 use Rattle.tables.specs.Holding.{HoldsNodes}
 use Rattle.tables.specs.Index.{slotWords, formulaWords, slotOf, slotAt, Last, Indexed, entered, NodeFound}
-use Rattle.tables.specs.declared.index.Found.{Found}
-use Rattle.tables.proofs.Sets.{same-false}
+use Rattle.tables.specs.declared.found.Found.{Found}
+use Rattle.tables.proofs.Equal.{same-false}
 use Rattle.tables.proofs.Encoded.{node-held}
 
 module _ {X : Type 0} (test : X → Bool) where

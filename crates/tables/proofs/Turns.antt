@@ -1,69 +1,84 @@
--- A loop over the first records of a table: what each turn of it, and each way out, says of a test that one of them passes. Assumes nothing.
+-- A loop over the first records of a table: what each turn of it, and each way out, says of the place of the first that passes a
+-- test. Assumes nothing.
 use Prim.Native.Nat.{ℕ, zero, suc, _+_, _-_, _*_, _≤_, _<_, zero-le}
 use native.Mathlib.Decide.{decLt}
-use native.Mathlib.Nat.{mul-zero, mul-suc, sub-zero}
+use native.Mathlib.Nat.{mul-zero, sub-zero}
 use native.Mathlib.Omega.{arith}
-use mathlib.Core.Bool.{Bool, true, false, cond, _||_}
+use mathlib.Core.Bool.{Bool, true, false, cond}
 use mathlib.Core.List.{List, [], _∷_}
+use mathlib.Core.Option.{Option, none, some}
 use mathlib.Core.Path.{_≡_, refl, sym, ap, _∙_}
 use borrow.Author.Tests.{le-leb, lt-leb}
 use lib.ListN.{length, take, drop, length-drop}
 use lib.Seq.{drop-drop}
-use Rattle.format.specs.Text.{any}
-use Rattle.tables.specs.Lookups.{firstRecords}
+use Rattle.tables.specs.Names.{firstRecords, placeFrom, placeOf}
 
 module _ (test : List ℕ → Bool) (width : ℕ) where
-  abbrev pub somePasses : ℕ → List ℕ → Bool
-  somePasses count table = any test (firstRecords width count table)
+  -- the place of the first of so many records that passes, counted from k
+  abbrev pub foundFrom : ℕ → ℕ → List ℕ → Option ℕ
+  foundFrom k count table = placeFrom k test (firstRecords width count table)
 
   module _ (table : List ℕ) (at : ℕ) (l : at ≤ length table) where
-    next-record : (n : ℕ) → at + width ≤ length table → somePasses (suc n) (drop at table) ≡ test (take width (drop at table)) || somePasses n (drop (at + width) table)
+    next-record : (k n : ℕ) → at + width ≤ length table
+        → foundFrom k (suc n) (drop at table) ≡ cond (test (take width (drop at table))) (some k) (foundFrom (suc k) n (drop (at + width) table))
     unfolding firstRecords
-    next-record n h =
-        ap (λ (b : Bool). any test (cond b (take width (drop at table) ∷ firstRecords width n (drop width (drop at table))) [])) (le-leb width _ (simp length-drop (omega arith)))
-        ∙ ap (λ (rest : List ℕ). test (take width (drop at table)) || somePasses n rest) (drop-drop width at table)
+    next-record k n h =
+        ap (λ (b : Bool). placeFrom k test (cond b (take width (drop at table) ∷ firstRecords width n (drop width (drop at table))) []))
+        (le-leb width _ (simp length-drop (omega arith)))
+        ∙ ap (λ (rest : List ℕ). cond (test (take width (drop at table))) (some k) (foundFrom (suc k) n rest)) (drop-drop width at table)
 
-    no-record : (n : ℕ) → length table < at + width → somePasses n (drop at table) ≡ false
+    no-record : (k n : ℕ) → length table < at + width → foundFrom k n (drop at table) ≡ none
     unfolding firstRecords
-    no-record zero h = refl
-    no-record (suc n) h =
-        ap (λ (b : Bool). any test (cond b (take width (drop at table) ∷ firstRecords width n (drop width (drop at table))) [])) (lt-leb width _ (simp length-drop (omega arith)))
+    no-record k zero h = refl
+    no-record k (suc n) h =
+        ap (λ (b : Bool). placeFrom k test (cond b (take width (drop at table) ∷ firstRecords width n (drop width (drop at table))) []))
+        (lt-leb width _ (simp length-drop (omega arith)))
 
-  -- the loop has passed so many records, none of which passes the test
-  pub record Passed (count : ℕ) (table : List ℕ) (at : ℕ) : Type 0 where
-    pub passed : ℕ
-    pub place : at ≡ width * passed
-    pub within : at ≤ length table
-    pub rest : somePasses count table ≡ somePasses (count - passed) (drop at table)
+  -- the loop has passed i records, none of which passes the test
+  pub record Passed (count : ℕ) (table : List ℕ) (i : ℕ) : Type 0 where
+    pub within : width * i ≤ length table
+    pub rest : foundFrom 0 count table ≡ foundFrom i (count - i) (drop (width * i) table)
 
   module _ (count : ℕ) (table : List ℕ) where
     pub start : Passed count table 0
-    start = record { passed = 0; place = sym (mul-zero width); within = zero-le; rest = ap (λ (n : ℕ). somePasses n table) (sym (sub-zero count)) }
+    start =
+        let at : 0 ≡ width * 0 = sym (mul-zero width) in
+        record {
+          within = omega arith;
+          rest = ap (λ (n : ℕ). foundFrom 0 n table) (sym (sub-zero count)) ∙ ap (λ (k : ℕ). foundFrom 0 (count - 0) (drop k table)) at;
+        }
 
-    module _ {at : ℕ} (p : Passed count table at) where
+    module _ {i : ℕ} (p : Passed count table i) (l : i < count) (h : width * i + width ≤ length table) where
       -- one record more
-      head : p .passed < count → at + width ≤ length table → somePasses count table ≡ test (take width (drop at table)) || somePasses (count - suc (p .passed)) (drop (at + width) table)
-      head l h = p .rest ∙ ap (λ (n : ℕ). somePasses n (drop at table)) one ∙ next-record table at (p .within) (count - suc (p .passed)) h
+      head : foundFrom 0 count table
+          ≡ cond (test (take width (drop (width * i) table))) (some i) (foundFrom (suc i) (count - suc i) (drop (width * i + width) table))
+      head = p .rest ∙ ap (λ (n : ℕ). foundFrom i n (drop (width * i) table)) one ∙ next-record table (width * i) (p .within) i (count - suc i) h
         where
-          one : count - p .passed ≡ suc (count - suc (p .passed))
+          one : count - i ≡ suc (count - suc i)
           one = omega arith
 
-      pub next : p .passed < count → at + width ≤ length table → test (take width (drop at table)) ≡ false → Passed count table (at + width)
-      next l h e = record {
-        passed = suc (p .passed);
-        place = ap (λ (n : ℕ). n + width) (p .place) ∙ sym (mul-suc width (p .passed));
-        within = h;
-        rest = head l h ∙ ap (λ (b : Bool). b || somePasses (count - suc (p .passed)) (drop (at + width) table)) e;
-      }
+      abbrev after : Option ℕ
+      after = foundFrom (suc i) (count - suc i) (drop (width * i + width) table)
 
-      pub found : p .passed < count → at + width ≤ length table → test (take width (drop at table)) ≡ true → somePasses count table ≡ true
-      found l h e = head l h ∙ ap (λ (b : Bool). b || somePasses (count - suc (p .passed)) (drop (at + width) table)) e
+      pub next : (at : ℕ) → at ≡ width * i + width → (j : ℕ) → j ≡ suc i → width * j ≡ at
+          → test (take width (drop (width * i) table)) ≡ false → Passed count table j
+      next at e j f g t =
+          record {
+            within = omega arith;
+            rest =
+                head ∙ ap (λ (b : Bool). cond b (some i) after) t
+                ∙ ap (λ (k : ℕ). foundFrom k (count - k) (drop (width * i + width) table)) (sym f)
+                ∙ ap (λ (k : ℕ). foundFrom j (count - j) (drop k table)) (sym (g ∙ e));
+          }
 
-      -- no record is left: none of the count, or none that lies inside
-      pub ended : (p .passed < count → length table < at + width) → somePasses count table ≡ false
-      unfolding firstRecords
-      ended h = p .rest ∙ left (decLt (p .passed) count)
-        where
-          left : Dec (p .passed < count) → somePasses (count - p .passed) (drop at table) ≡ false
-          left (yes l) = no-record table at (p .within) (count - p .passed) (h l)
-          left (no n) = let none : count - p .passed ≡ 0 = omega arith in ap (λ (k : ℕ). somePasses k (drop at table)) none
+      pub found : test (take width (drop (width * i) table)) ≡ true → foundFrom 0 count table ≡ some i
+      found t = head ∙ ap (λ (b : Bool). cond b (some i) after) t
+
+    -- no record is left: none of the count, or none that lies inside
+    pub ended : {i : ℕ} → Passed count table i → (i < count → length table < width * i + width) → foundFrom 0 count table ≡ none
+    unfolding firstRecords
+    ended {i} p h = p .rest ∙ left (decLt i count)
+      where
+        left : Dec (i < count) → foundFrom i (count - i) (drop (width * i) table) ≡ none
+        left (yes l) = no-record table (width * i) (p .within) i (count - i) (h l)
+        left (no n) = let no-more : count - i ≡ 0 = omega arith in ap (λ (k : ℕ). foundFrom i k (drop (width * i) table)) no-more

@@ -10,7 +10,7 @@ use Rattle.format.specs.File.{Node}
 use Rattle.format.specs.Tables.{nodeRecord}
 use Rattle.tables.specs.Records.{nodeAt, nodeOf, nodeNumbers}
 use Rattle.tables.specs.Holding.{HoldsNodes}
-use Rattle.tables.specs.declared.index.Found.{Found}
+use Rattle.tables.specs.declared.found.Found.{Found}
 
 -- the words of the slots and of the formulas begin here
 abbrev pub slotWords : ℕ

@@ -1,6 +1,7 @@
 pub mod Records
 pub mod Holding
-pub mod Lookups
+pub mod Names
+pub mod Counts
 pub mod Index
 pub mod Known
-pub mod Members
+pub mod Entering

@@ -7,6 +7,7 @@ ghost use lib.ListN.{getD, set};
 ghost use Rattle.format.specs.Text.{sameList};
 ghost use Rattle.tables.specs.Records.{nodeAt, nodeOf, nodeNumbers};
 ghost use Rattle.tables.specs.Index.{formulaWords, slotOf, entered, NodeFound};
+use crate::found::Found;
 use crate::records::NodeRecord;
 use crate::records::node;
 use crate::records::wide;
@@ -70,14 +71,8 @@ fn past_last(words: &[u64], i: u64) -> u64
     after
 }
 
-// Where a formula is.
-pub enum Found {
-    At(usize),
-    Nowhere,
-}
-
 // The formula that has this record, by the index.
-pub fn find_node(formulas: &[u16], words: &[u64], key: NodeRecord) -> Found
+pub(crate) fn find_node(formulas: &[u16], words: &[u64], key: NodeRecord) -> Found
     ensures { λ r. ⌜ NodeFound (now (formulas .entry)) (now (words .entry)) (nodeNumbers key) r ⌝ }
 {
     let mut after = word(words, SLOTS + slot(key));

@@ -4,20 +4,17 @@
 ghost use mathlib.Core.Path.{_≡_};
 ghost use Prim.Native.Nat.{_*_};
 ghost use mathlib.Core.List.{[], _∷_};
+ghost use lib.ListN.{take};
 ghost use Rattle.format.specs.Tables.{rowWidth, rowAt};
 ghost use Rattle.format.specs.Tables.{part as partOf};
 ghost use Rattle.format.specs.Tables.{nameWidth, nodeWidth};
 ghost use Rattle.tables.specs.Records.{written, nodeNumbers, rowNumbers, nodeAt, nodeOf, rowOf};
+use crate::limits::NAME_WIDTH;
+use crate::limits::NODE_WIDTH;
+use crate::limits::ROW_WIDTH;
 
 // The number of an absent field.
-const ABSENT: u16 = 65535;
-
-// The numbers in one record of each table.
-pub(crate) const NAME_WIDTH: usize = 2;
-
-pub(crate) const NODE_WIDTH: usize = 3;
-
-pub(crate) const ROW_WIDTH: usize = 8;
+pub const ABSENT: u16 = 65535;
 
 // The record of a formula: its word (0 to 5 for bot, atom, not, and, or, imp) and its operands.
 pub struct NodeRecord {
@@ -55,6 +52,17 @@ pub(crate) fn part(table: &[u16], start: u16, len: u16) -> &[u16]
         return &table[0..0];
     }
     &table[from..to]
+}
+
+// The first numbers of a table, as far as it has so many.
+pub fn front(table: &[u16], count: usize) -> &[u16]
+    ensures { λ r. ⌜ now r ≡ take count (now (table .entry)) ⌝ }
+{
+    if count > table.len() {
+        let all = table.len();
+        return &table[..all];
+    }
+    &table[..count]
 }
 
 // Record i of the formulas table.

@@ -1,4 +1,6 @@
-pub mod Scan
+pub mod Refusals
+pub mod Parts
+pub mod Numbers
+pub mod Lists
+pub mod Names
 pub mod Words
-pub mod Answers
-pub mod Inner

@@ -2,12 +2,12 @@
 // can be written.
 ghost use mathlib.Core.Path.{_≡_};
 ghost use mathlib.Core.List.{[]};
-ghost use lib.ListN.{length, getD};
+ghost use lib.ListN.{getD};
 ghost use Rattle.format.specs.Text.{fieldsOf};
 use libc::STDOUT_FILENO;
-use text::Kind;
-use text::Number;
-use text::Optional;
+use text::numbers::Number;
+use text::numbers::Optional;
+use text::words::Kind;
 
 fn put(bytes: &[u8]) {
     io::write_all(STDOUT_FILENO, bytes);
@@ -39,7 +39,7 @@ fn put_bool(yes: bool) {
 
 fn show_number(field: &[u8]) {
     put_head(b"number", field);
-    let number = text::read_number(field);
+    let number = text::numbers::read_number(field);
     match number {
         Number::Value(n) => put_decimal(n as u64),
         Number::Bad => put(b"bad"),
@@ -49,7 +49,7 @@ fn show_number(field: &[u8]) {
 
 fn show_principal(field: &[u8]) {
     put_head(b"principal", field);
-    let principal = text::read_principal(field);
+    let principal = text::numbers::read_principal(field);
     match principal {
         Optional::Absent => put(b"absent"),
         Optional::Value(n) => put_decimal(n as u64),
@@ -62,7 +62,7 @@ fn show_principal(field: &[u8]) {
 fn show_list(field: &[u8]) {
     put_head(b"list", field);
     let mut out = [0u16; 2];
-    let listed = text::read_list(field, &mut out);
+    let listed = text::lists::read_list(field, &mut out);
     if listed.well {
         put_decimal(listed.count as u64);
         put(b" entries, largest ");
@@ -81,22 +81,22 @@ fn show_list(field: &[u8]) {
 
 fn show_name(field: &[u8]) {
     put_head(b"name", field);
-    put_bool(text::is_name(field));
+    put_bool(text::names::is_name(field));
     put(b"\n");
 }
 
 fn show_words(field: &[u8]) {
     put_head(b"word", field);
     put(b"formula ");
-    put_decimal(text::formula_word(field) as u64);
+    put_decimal(text::words::formula_word(field) as u64);
     put(b", rule ");
-    put_decimal(text::rule_word(field) as u64);
+    put_decimal(text::words::rule_word(field) as u64);
     put(b"\n");
 }
 
 fn show_kind(field: &[u8]) {
     put_head(b"kind", field);
-    let kind = text::line_kind(field);
+    let kind = text::words::line_kind(field);
     match kind {
         Kind::Atom => put(b"atom"),
         Kind::Formula => put(b"formula"),
@@ -107,25 +107,19 @@ fn show_kind(field: &[u8]) {
     put(b"\n");
 }
 
-// The third field of a line that has three; the empty part of any other.
+// The third field of a line; empty where it has none.
 fn third(line: &[u8]) -> &[u8]
-    ensures { λ r. ⌜ (length (fieldsOf (now (line .entry))) ≡ 3 → now r ≡ getD (fieldsOf (now (line .entry))) 2 []) ⌝ }
+    ensures { λ r. ⌜ now r ≡ getD (fieldsOf (now (line .entry))) 2 [] ⌝ }
 {
-    let fields = text::read_fields(line);
-    if fields.count != 3 {
-        return &line[..0];
-    }
-    let ends = fields.ends;
-    let start = ends[1] + 1;
-    let end = ends[2];
-    &line[start..end]
+    let fields = text::parts::read_fields(line);
+    text::parts::field(line, fields, 2)
 }
 
 fn show_line(line: &[u8]) {
     put_head(b"line", line);
-    let fields = text::read_fields(line);
+    let fields = text::parts::read_fields(line);
     put_decimal(fields.count as u64);
-    put(b" fields, the third of three [");
+    put(b" fields, the third [");
     put(third(line));
     put(b"]\n");
 }

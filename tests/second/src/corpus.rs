@@ -94,6 +94,15 @@ mod tests {
     }
 
     #[test]
+    fn no_text_stands_under_two_names() {
+        let mut names = BTreeMap::new();
+        let again =
+            |case: Case| names.insert(case.text, case.name.clone()).map(|earlier| (earlier, case.name));
+        let repeated: Vec<(String, String)> = cases().into_iter().filter_map(again).collect();
+        assert!(repeated.is_empty(), "{repeated:#?}");
+    }
+
+    #[test]
     fn second_checker_answers_as_the_corpus_says() {
         let differs = |case: &Case| {
             let compared = Cell::new(0);

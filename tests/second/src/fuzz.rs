@@ -72,7 +72,7 @@ fn run(seed: u64, count: usize, mut also: impl FnMut(&Sample, &Judgement) -> Res
 
 /// Writes a text that failed into a file.
 fn keep(text: &[u8], seed: u64, index: usize) -> PathBuf {
-    let folder = Path::new(env!("CARGO_MANIFEST_DIR")).join("target/failures");
+    let folder = Path::new(env!("CARGO_MANIFEST_DIR")).join("../target/failures");
     let file = folder.join(format!("{seed}-{index}.txt"));
     std::fs::create_dir_all(folder).and_then(|()| std::fs::write(&file, text)).expect("a file for the text");
     file

@@ -41,25 +41,49 @@ pub fn full_rows() -> String {
     negations(1) + &same_rows(MOST_ROWS)
 }
 
-/// Rows that fill the left pool: # => #, and 256 rows that hold it among others.
+/// A pool, and the side of a row that goes into it.
+#[derive(Clone, Copy)]
+enum Pool {
+    Left,
+    Right,
+}
+
+impl Pool {
+    fn name(self) -> &'static str {
+        match self {
+            Pool::Left => "left",
+            Pool::Right => "right",
+        }
+    }
+
+    /// A list on this side and another across, as the last two fields of a line.
+    fn sides(self, here: &str, across: &str) -> String {
+        match self {
+            Pool::Left => format!("{here}\t{across}\n"),
+            Pool::Right => format!("{across}\t{here}\n"),
+        }
+    }
+
+    fn row(self, number: usize, here: &str, across: &str) -> String {
+        format!("N\t{number}\tsame\t0\t-\t{}", self.sides(here, across))
+    }
+
+    /// Rows that hold so many entries here, and the count of rows: # => #, rows with 64,
+    /// and one with the rest.
+    fn filled(self, entries: usize) -> (String, usize) {
+        let (wide, rest) = ((entries - 1) / MOST_ON_A_SIDE, (entries - 1) % MOST_ON_A_SIDE);
+        let lengths = [vec![1], vec![MOST_ON_A_SIDE; wide], vec![rest]].concat();
+        let rows = lengths.iter().enumerate().map(|(k, &length)| self.row(k, &up_to(length), "0"));
+        (rows.collect(), lengths.len())
+    }
+}
+
 pub fn full_left_pool() -> String {
-    filled_pool(|k, side| format!("N\t{k}\tsame\t0\t-\t{side}\t0\n"))
+    negations(MOST_ON_A_SIDE) + &Pool::Left.filled(MOST_IN_A_POOL).0
 }
 
-/// The same on the right.
 pub fn full_right_pool() -> String {
-    filled_pool(|k, side| format!("N\t{k}\tsame\t0\t-\t0\t{side}\n"))
-}
-
-fn filled_pool(row: impl Fn(usize, &str) -> String) -> String {
-    let wide = MOST_IN_A_POOL / MOST_ON_A_SIDE;
-    let lengths = (0..=wide).map(|k| match k {
-        0 => 1,
-        _ if k == wide => MOST_ON_A_SIDE - 1,
-        _ => MOST_ON_A_SIDE,
-    });
-    let rows = lengths.enumerate().map(|(k, length)| row(k, &up_to(length)));
-    negations(MOST_ON_A_SIDE) + &rows.collect::<String>()
+    negations(MOST_ON_A_SIDE) + &Pool::Right.filled(MOST_IN_A_POOL).0
 }
 
 pub fn cases() -> Vec<Case> {
@@ -118,8 +142,52 @@ pub fn cases() -> Vec<Case> {
         full_right_pool() + &tabbed("N 257 bot 0 0 0 - / C 0 -")
     });
 
+    cases.extend([Pool::Left, Pool::Right].into_iter().flat_map(long_sides));
     cases.extend(long_texts());
     cases.extend(deep_formulas());
+    cases
+}
+
+/// Sides that are too long, or not rising, where their pool ends. 5 counts every entry
+/// as it is written, past the 64th and repeats too, before 7 and 9 are asked.
+fn long_sides(pool: Pool) -> Vec<Case> {
+    let mut cases = vec![];
+    let mut case = |name: String, number: u16, text: String| {
+        cases.push(raw(&format!("limits/{name}"), number, text.lines().count(), text));
+    };
+    let side = pool.name();
+    let formulas = negations(MOST_ON_A_SIDE + 1);
+    let over = up_to(MOST_ON_A_SIDE + 1);
+    let missing = up_to(MOST_ON_A_SIDE) + ",65";
+    let badly_written = up_to(MOST_ON_A_SIDE) + ",064";
+
+    let mut last_row = |what: &str, number: u16, held: usize, last: &str| {
+        let (rows, count) = pool.filled(held);
+        let entries = held + last.split(',').count();
+        let text = formulas.clone() + &rows + &pool.row(count, last, "0");
+        case(format!("{entries}_entries_{side}_{what}"), number, text);
+    };
+    let room_for_64 = MOST_IN_A_POOL - MOST_ON_A_SIDE;
+    last_row("by_a_65th_in_a_row", 5, room_for_64, &over);
+    last_row("by_a_missing_65th", 5, room_for_64, &missing);
+    last_row("by_a_repeat", 5, room_for_64, &format!("0,{}", up_to(MOST_ON_A_SIDE)));
+    last_row("with_a_repeat", 9, room_for_64, &format!("0,{}", up_to(MOST_ON_A_SIDE - 1)));
+    last_row("with_65_in_a_row", 9, room_for_64 - 1, &over);
+    last_row("with_a_missing_65th", 7, room_for_64 - 1, &missing);
+
+    for (entries, number) in [(MOST_IN_A_POOL, 9), (MOST_IN_A_POOL + 1, 5)] {
+        let row = pool.row(0, &vec!["0"; entries].join(","), "0");
+        case(format!("{entries}_entries_{side}_in_one_row"), number, negations(1) + &row);
+    }
+    let (full, count) = pool.filled(MOST_IN_A_POOL);
+    let across = formulas.clone() + &full + &pool.row(count, "-", &over);
+    case(format!("16384_entries_{side}_and_65_across"), 9, across);
+
+    let after_a_row = |last: &str| formulas.clone() + &pool.row(0, "0", "0") + last;
+    let claim = |list: &str| format!("C\t{}", pool.sides(list, "0"));
+    case(format!("badly_written_65th_{side}"), 3, after_a_row(&pool.row(1, &badly_written, "0")));
+    case(format!("badly_written_65th_{side}_in_the_claim"), 3, after_a_row(&claim(&badly_written)));
+    case(format!("missing_65th_{side}_in_the_claim"), 7, after_a_row(&claim(&missing)));
     cases
 }
 

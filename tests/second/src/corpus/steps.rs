@@ -63,13 +63,13 @@ refused 11 principal_is_falsum
 
 const SAME: &str = "
 accepted alone
-    same p - p => p
+    same p|q - p|q => p|q
 accepted among_others
     same p - p,q,~r => p,r,#
 accepted compound
     same p->~q - p->~q => p->~q,r
 accepted falsum
-    same # - # => #
+    same # - #,p => #,q
 accepted everything_in_common
     same q - p,q,r => p,q,r
 refused 11 only_on_the_left
@@ -126,8 +126,8 @@ refused 11 left_weakening
 
 const BOT: &str = "
 accepted last_on_the_right
-    same # - # => #
-    bot # 0 # => -
+    same # - #,p => #
+    bot # 0 #,p => -
 accepted among_others
     same p - p,q => p,r,#
     bot # 0 p,q => p,r
@@ -389,7 +389,7 @@ accepted p_on_the_left_and_not_p_on_the_right
 accepted not_p_on_the_left_and_p_on_the_right
     xini - - ~p ; p
 accepted p_and_not_p_on_the_right
-    xini - - - ; p,~p
+    xini - - q ; p,~p
 accepted falsum_on_the_right
     xini - - - ; #
 accepted negated_falsum_on_the_left
@@ -516,7 +516,7 @@ refused 11 v_from_the_file
     atoms p,q
     prove ~~p => p&~q
     refute ~~p,~q ; p|~p
-    unst - 0,1 ~~p => #
+    unst - 0,1 ~~p => -
 refused 11 v_from_the_succedent
     prove ~~p => p&~q
     refute ~~p,~q ; p|~p

@@ -239,7 +239,6 @@ const SIDES: Table = &[
 #[rustfmt::skip]
 const CLAIMS: Table = &[
     ("claims/no_lines_but_an_empty_claim", 12, 1, "C - -"),
-    ("claims/last_row_is_a_refutation", 12, 2, "N 0 xini - - - - / C - -"),
     ("claims/sides_exchanged", 12, 5, "A 0 p / F 0 atom 0 - / F 1 bot - - / N 0 same 0 - 0 0,1 / C 0,1 0"),
     ("claims/left_is_more", 12, 5, "A 0 p / F 0 atom 0 - / F 1 bot - - / N 0 same 0 - 0 0 / C 0,1 0"),
     ("claims/left_is_less", 12, 5, "A 0 p / F 0 atom 0 - / F 1 bot - - / N 0 same 0 - 0,1 0 / C 0 0"),
@@ -250,8 +249,6 @@ const CLAIMS: Table = &[
     ("claims/refutation_with_exactly_these_sides", 12, 5, "A 0 p / F 0 atom 0 - / N 0 same 0 - 0 0 / N 1 xini - - - 0 / C - 0"),
     ("claims/of_the_last_of_repeated_rows", 0, 5, "A 0 p / F 0 atom 0 - / N 0 same 0 - 0 0 / N 1 same 0 - 0 0 / C 0 0"),
     ("claims/of_a_row_after_unused_rows", 0, 6, "A 0 p / F 0 atom 0 - / N 0 xini - - 0 - / N 1 xini - - - 0 / N 2 same 0 - 0 0 / C 0 0"),
-    ("claims/with_an_empty_right", 0, 4, "F 0 bot - - / N 0 same 0 - 0 0 / N 1 bot 0 0 0 - / C 0 -"),
-    ("claims/with_an_empty_left", 0, 5, "A 0 p / F 0 atom 0 - / F 1 not 0 - / N 0 def 1 - - 1 / C - 1"),
     ("claims/absent_after_atoms", 13, 3, "A 0 p / A 1 q"),
     ("claims/absent_after_formulas", 13, 3, "A 0 p / F 0 atom 0 -"),
     ("claims/absent_after_rows", 13, 4, "A 0 p / F 0 atom 0 - / N 0 same 0 - 0 0"),

@@ -1,0 +1,3 @@
+-- Laws of the rule rcut.
+pub mod CutRule
+mod CutTests

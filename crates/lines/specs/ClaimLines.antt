@@ -1,0 +1,38 @@
+-- C lines: the numbers that a claim earns before the last row is asked, and what the line comes to. No table changes.
+use Prim.Native.Nat.{ℕ}
+use mathlib.Core.Path.{_≡_}
+use mathlib.Core.Bool.{_||_}
+use mathlib.Core.List.{List, [], _∷_}
+use mathlib.Core.Option.{some}
+use Rattle.format.specs.Text.{Bytes}
+use Rattle.format.specs.Line.{claimLine, lineOf}
+use Rattle.format.specs.Tests.{Test, _when_}
+use Rattle.text.specs.declared.lists.Listed.{Listed}
+use Rattle.rows.specs.Early.{pastOf, badOf}
+use Rattle.rows.specs.Judgement.{Laid}
+use Rattle.lines.specs.State.{outOfTurn, Contents, Keeps}
+use Rattle.lines.specs.Lined.{Lined}
+use Rattle.lines.specs.declared.state.State.{State}
+use Rattle.lines.specs.declared.state.Stepped.{Stepped}
+
+-- the numbers 4, 7 and 9
+abbrev pub claimOf : Listed → Listed → State → List Test
+claimOf left right s =
+    (4 when outOfTurn (s .stage) 3)
+    ∷ (7 when pastOf left (s .counts .formulas) || pastOf right (s .counts .formulas))
+    ∷ (9 when badOf left || badOf right)
+    ∷ []
+
+-- the contents with these rows and pools
+abbrev pub withTables : Contents → List ℕ → List ℕ → List ℕ → Contents
+withTables t rows left right = record { names = t .names; formulas = t .formulas; words = t .words; rows = rows; left = left; right = right }
+
+pub record ClaimSettled (antecedent succedent : Listed) (number : ℕ) (l r rows left right : List ℕ) (s : State) (stepped : Stepped) : Type 0 where
+  pub lined :
+      (text line : Bytes) (start : ℕ) (xs ys : List ℕ) (t : Contents) → lineOf line ≡ some (claimLine xs ys) → Laid xs antecedent l → Laid ys succedent r
+      → Lined text start line number s stepped (withTables t rows left right) (withTables t rows left right)
+  pub keeps : (t : Contents) → Keeps s stepped t t
+
+abbrev pub ClaimLined : Bytes → ℕ → List ℕ → List ℕ → List ℕ → State → Stepped → Type 0
+ClaimLined line number rows left right s stepped =
+    (text : Bytes) (start : ℕ) (t : Contents) → Lined text start line number s stepped (withTables t rows left right) (withTables t rows left right)

@@ -1,0 +1,53 @@
+-- F lines: what is read of them, the number that a formula earns, and what the line comes to. Only the formulas and what is known
+-- of them can change.
+use Prim.Native.Nat.{ℕ, zero, suc, _%_, _<_}
+use mathlib.Core.Path.{_≡_}
+use mathlib.Core.Bool.{Bool, true, false, cond, _||_}
+use mathlib.Core.List.{List, [], _∷_}
+use mathlib.Core.Option.{Option, none, some}
+use lib.Dec.{eqb, leb}
+use lib.ListN.{getD}
+use Rattle.format.specs.Text.{Bytes}
+use Rattle.format.specs.File.{Node}
+use Rattle.format.specs.Tables.{nodeRecord, mostFormulas}
+use Rattle.format.specs.Tests.{Test, _when_, first}
+use Rattle.tables.specs.declared.counts.Counts.{Counts}
+use Rattle.tables.specs.declared.records.NodeRecord.{NodeRecord}
+use Rattle.rows.specs.Early.{numbered}
+use Rattle.lines.specs.State.{notNext, Contents}
+use Rattle.lines.specs.Lined.{Lined}
+use Rattle.lines.specs.declared.state.State.{State}
+use Rattle.lines.specs.declared.state.Stepped.{Stepped}
+use Rattle.lines.specs.declared.formula.Written.{Written}
+
+-- the formula, as its fields are read
+abbrev pub writtenAs : Option Node → Written
+writtenAs none = record { well = false; word = 0; first = 0; second = 0 }
+writtenAs (some node) = record { well = true; word = getD (nodeRecord node) 0 0; first = getD (nodeRecord node) 1 0; second = getD (nodeRecord node) 2 0 }
+
+-- its record, as numbers of 16 bits
+abbrev pub narrowed : Written → NodeRecord
+narrowed node = record { word = node .word % 65536; first = node .first % 65536; second = node .second % 65536 }
+
+-- an operand is not earlier: none, an atom, a formula, or one of two formulas
+unfoldable pub aheadIn : Written → Counts → Bool
+aheadIn node c =
+    cond (eqb (node .word) 0) false (
+    cond (eqb (node .word) 1) (leb (c .atoms) (node .first)) (
+    cond (eqb (node .word) 2) (leb (c .formulas) (node .first)) (leb (c .formulas) (node .first) || leb (c .formulas) (node .second))))
+
+-- the numbers 4, 5 and 7, by the formula as it was read and the state
+abbrev pub formulaOf : State → ℕ → Written → List Test
+formulaOf s n node =
+    (4 when notNext (s .stage) 1 (s .counts .formulas) n) ∷ (5 when leb mostFormulas (s .counts .formulas)) ∷ (7 when aheadIn node (s .counts)) ∷ []
+
+pub record FormulaNumbered (s : State) (n : ℕ) (node : Written) (k : ℕ) : Type 0 where
+  pub tests : numbered k ≡ first (formulaOf s n node)
+
+-- the contents with other formulas and words
+abbrev pub withFormulas : Contents → List ℕ → List ℕ → Contents
+withFormulas t formulas words = record { names = t .names; formulas = formulas; words = words; rows = t .rows; left = t .left; right = t .right }
+
+abbrev pub FormulaLined : Bytes → ℕ → State → Stepped → List ℕ → List ℕ → List ℕ → List ℕ → Type 0
+FormulaLined line number s r formulas words formulas′ words′ =
+    (text : Bytes) (start : ℕ) (t : Contents) → Lined text start line number s r (withFormulas t formulas words) (withFormulas t formulas′ words′)

@@ -1,0 +1,155 @@
+// The C line.
+ghost use mathlib.Core.Path.{_≡_};
+ghost use mathlib.Core.List.{List};
+ghost use lib.ListN.{length};
+ghost use Rattle.format.specs.File.{Row};
+ghost use Rattle.format.specs.Tests.{first, lastIs};
+ghost use Rattle.rows.specs.Early.{numbered};
+ghost use Rattle.tables.specs.Holding.{HoldsRows};
+ghost use Rattle.text.specs.Parts.{Fielded};
+ghost use Rattle.lines.specs.Lined.{OfKind};
+ghost use Rattle.lines.specs.ClaimLines.{claimOf, ClaimSettled, ClaimLined};
+use crate::state::CLAIMED;
+use crate::state::State;
+use crate::state::Stepped;
+use crate::state::out_of_turn;
+use rows::early::bad_sides;
+use rows::early::past;
+use rules::KIND;
+use rules::rule_number;
+use sides::members::same;
+use tables::fetch;
+use tables::limits::MOST_ON_SIDE;
+use tables::records::front;
+use tables::records::row;
+use text::lists::Listed;
+use text::lists::read_list;
+use text::parts::Fields;
+use text::parts::field;
+use text::refusals::BAD_LINE;
+
+// Whether the last of `count` rows is an ELK row with exactly these sides.
+fn last_is<'a>(
+    rows: &[u16],
+    left: &'a [u16],
+    right: &'a [u16],
+    count: usize,
+    antecedent: &[u16],
+    succedent: &[u16],
+) -> bool
+    ensures { λ r. ⌜ ((held : List Row) → HoldsRows held (now (rows .entry)) (now (left .entry)) (now (right .entry)) → count ≡ length held
+        → r ≡ lastIs held (now (antecedent .entry)) (now (succedent .entry))) ⌝ }
+{
+    if count == 0 {
+        return false;
+    }
+    let last = count - 1;
+    let record = row(rows, last);
+    if rule_number(record.rule, KIND) != 0 {
+        return false;
+    }
+    if !same(fetch(rows, left, right, true, last), antecedent) {
+        return false;
+    }
+    same(fetch(rows, left, right, false, last), succedent)
+}
+
+// The first of the numbers 4, 7 and 9 that applies to a claim, 0 if none does.
+fn claim_number(antecedent: Listed, succedent: Listed, state: State) -> u32
+    ensures { λ r. ⌜ numbered r ≡ first (claimOf antecedent succedent state) ⌝ }
+{
+    let counts = state.counts;
+    if out_of_turn(state.stage, CLAIMED) {
+        return 4;
+    }
+    if past(antecedent, counts.formulas) {
+        return 7;
+    }
+    if past(succedent, counts.formulas) {
+        return 7;
+    }
+    if bad_sides(antecedent, succedent) {
+        return 9;
+    }
+    0
+}
+
+// A claim that is well written, by the tables that its lists were read into.
+fn settle_claim<'a>(
+    antecedent: Listed,
+    succedent: Listed,
+    number: u32,
+    l: &[u16],
+    r: &[u16],
+    rows: &[u16],
+    left: &'a [u16],
+    right: &'a [u16],
+    state: State,
+) -> Stepped
+    ensures { λ s. ⌜ ClaimSettled antecedent succedent number (now (l .entry)) (now (r .entry))
+        (now (rows .entry)) (now (left .entry)) (now (right .entry)) state s ⌝ }
+{
+    let refusal = claim_number(antecedent, succedent, state);
+    if refusal != 0 {
+        return state.refused(refusal, number);
+    }
+    let counts = state.counts;
+    if !last_is(
+        rows,
+        left,
+        right,
+        counts.rows,
+        front(l, antecedent.count),
+        front(r, succedent.count),
+    ) {
+        return state.refused(12, number);
+    }
+    Stepped {
+        number: 0,
+        line: number,
+        state: State {
+            counts,
+            stage: CLAIMED,
+            claim: number,
+        },
+    }
+}
+
+// A C line, taken into its fields; it is line `number`.
+pub(crate) fn claim_line<'a>(
+    line: &[u8],
+    number: u32,
+    fields: Fields,
+    rows: &[u16],
+    left: &'a [u16],
+    right: &'a [u16],
+    state: State,
+) -> Stepped
+    requires { ⌜ (Fielded (now line) fields) × OfKind "C" (now line) ⌝ }
+    ensures { λ s. ⌜ ClaimLined (now (line .entry)) number (now (rows .entry)) (now (left .entry)) (now (right .entry)) state s ⌝ }
+{
+    if fields.count != 3 {
+        return state.refused(BAD_LINE, number);
+    }
+    let mut l = [0u16; MOST_ON_SIDE];
+    let mut r = [0u16; MOST_ON_SIDE];
+    let antecedent = read_list(field(line, fields, 1), &mut l);
+    let succedent = read_list(field(line, fields, 2), &mut r);
+    if !antecedent.well {
+        return state.refused(BAD_LINE, number);
+    }
+    if !succedent.well {
+        return state.refused(BAD_LINE, number);
+    }
+    settle_claim(
+        antecedent,
+        succedent,
+        number,
+        &l,
+        &r,
+        rows,
+        left,
+        right,
+        state,
+    )
+}

@@ -1,0 +1,145 @@
+-- The tests by what is known of a row as it was read, and by the counts, are those of the row over the body; and what it says of
+-- the row that none of them applies.
+use Prim.Native.Nat.{ℕ, _≤_, _<_, max}
+use native.Mathlib.Omega.{arith}
+use mathlib.Core.Path.{_≡_, refl, sym, ap, ap₂, subst, _∙_}
+use mathlib.Core.Bool.{Bool, true, false, not, _&&_, _||_, or-false}
+use mathlib.Core.List.{List, [], _∷_}
+use mathlib.Core.Option.{Option, none, some}
+use lib.Dec.{eqb, ltb, leb}
+use lib.ListN.{length, getD, take}
+use borrow.Author.Tests.{le-leb, lt-leb, leb-true, leb-false, ltb-false, ne-eqb}
+use Rattle.equilibrium.specs.Meaning.{_∈_}
+use Rattle.format.specs.Text.{any, strictlyRising}
+use Rattle.format.specs.File.{Row, Body}
+use Rattle.format.specs.Tables.{absent, mostFormulas, mostOnSide}
+use Rattle.format.specs.Tests.{Test, _when_, first, notEarlier, unknownFormula, listed, badSide}
+use Rattle.format.proofs.Booleans as booleans
+use Rattle.format.proofs.Tested.{passes}
+use Rattle.format.proofs.GoodBodies.{Held, good-held}
+use Rattle.format.proofs.Formulas.{known-earlier}
+use Rattle.text.specs.Numbers.{principalAs}
+use Rattle.text.specs.Lists.{largest, listedAs}
+use Rattle.text.specs.declared.numbers.Optional.{Optional}
+use Rattle.text.specs.declared.lists.Listed.{Listed}
+use Rattle.tables.specs.Counts.{countsOf, fullFor}
+use Rattle.tables.specs.Holding.{Sided}
+use Rattle.tables.specs.declared.counts.Counts.{Counts}
+use Rattle.rows.specs.Early.{pastOf, aheadOf, badOf, referencesOf, earlyOf}
+use Rattle.rows.specs.Judgement.{Narrow, Drafted, Ground, earlyTests}
+use Rattle.rows.specs.Judging.{Judging}
+use Rattle.rows.specs.declared.draft.Draft.{Draft}
+
+leb-max : (h a b : ℕ) → leb h a || leb h b ≡ leb h (max a b)
+leb-max h a b = by-tests (leb h a) (leb h b) refl refl
+  where
+    by-tests : (s t : Bool) → leb h a ≡ s → leb h b ≡ t → s || t ≡ leb h (max a b)
+    by-tests true t e k = sym (le-leb h (max a b) (omega (arith, leb-true h a e)))
+    by-tests false true e k = sym (le-leb h (max a b) (omega (arith, leb-true h b k)))
+    by-tests false false e k = sym (lt-leb h (max a b) (omega (arith, leb-false h a e, leb-false h b k)))
+
+any-largest : (h x : ℕ) (xs : List ℕ) → any (notEarlier h) (x ∷ xs) ≡ leb h (largest (x ∷ xs))
+unfolding largest
+any-largest h x [] = let e : max x 0 ≡ x = omega arith in or-false (leb h x) ∙ ap (leb h) (sym e)
+any-largest h x (y ∷ ys) = ap (λ (t : Bool). leb h x || t) (any-largest h y ys) ∙ leb-max h x (largest (y ∷ ys))
+
+-- some number of a list is not earlier exactly if its largest is not
+pub past-listed : (xs : List ℕ) (h : ℕ) → pastOf (listedAs (some xs)) h ≡ any (notEarlier h) xs
+past-listed [] h = refl
+past-listed (x ∷ xs) h = ap (λ (t : Bool). not t && leb h (largest (x ∷ xs))) (ne-eqb (length (x ∷ xs)) 0 (λ e. omega arith)) ∙ sym (any-largest h x xs)
+
+ahead-listed : (o : Option ℕ) (h : ℕ) → aheadOf (principalAs (some o)) h ≡ any (notEarlier h) (listed o)
+ahead-listed none h = refl
+ahead-listed (some i) h = sym (or-false (leb h i))
+
+-- the draft of a row, where nothing is stored beside it
+abbrev draftOf : Row → ℕ → ℕ → ℕ → Draft
+draftOf r rule one two =
+    record {
+      rule = rule;
+      principal = principalAs (some (r .principal));
+      premises = listedAs (some (r .premises));
+      first = one;
+      second = two;
+      left = listedAs (some (r .left));
+      right = listedAs (some (r .right));
+    }
+
+own-tests : (b : Body) (r : Row) (rule one two : ℕ) → earlyOf (draftOf r rule one two) (countsOf b) ≡ earlyTests b r
+unfolding fullFor
+own-tests b r rule one two =
+    ap (λ (t : Bool). (5 when fullFor (countsOf b) (length (r .left)) (length (r .right))) ∷ (7 when t) ∷ (9 when badSide (r .left) || badSide (r .right)) ∷ []) (
+    ap₂ (λ (s t : Bool). s || t || pastOf (listedAs (some (r .left))) (length (b .nodes)) || pastOf (listedAs (some (r .right))) (length (b .nodes)))
+    (ahead-listed (r .principal) (length (b .nodes))) (past-listed (r .premises) (length (b .rows)))
+    ∙ ap₂ (λ (s t : Bool). unknownFormula b (listed (r .principal)) || any (notEarlier (length (b .rows))) (r .premises) || s || t)
+    (past-listed (r .left) (length (b .nodes))) (past-listed (r .right) (length (b .nodes))))
+
+-- the tests of a row as it was read are its tests over the body
+pub early-same : {b : Body} {r : Row} {d : Draft} {c : Counts} {left right : List ℕ} → c ≡ countsOf b → Drafted r d left right → earlyOf d c ≡ earlyTests b r
+early-same {b} {r} {d} {c} counts drafted =
+    ap (earlyOf d) counts
+    ∙ ap₂ (λ (o : Optional) (l : Listed). earlyOf (record { rule = d .rule; principal = o; premises = l; first = d .first; second = d .second; left = d .left; right = d .right }) (countsOf b)) (drafted .principal) (drafted .premises)
+    ∙ ap₂ (λ (l m : Listed). earlyOf (record { rule = d .rule; principal = principalAs (some (r .principal)); premises = listedAs (some (r .premises)); first = d .first; second = d .second; left = l; right = m }) (countsOf b)) (drafted .left-laid .answer) (drafted .right-laid .answer)
+    ∙ own-tests b r (d .rule) (d .first) (d .second)
+
+-- numbers below a limit that 16 bits hold
+narrow-below : (h : ℕ) (xs : List ℕ) → h ≤ absent → ((x : ℕ) → x ∈ xs → x < h) → Narrow xs
+narrow-below h xs fits below x m = omega (arith, below x m)
+
+good-side : (b : Body) (side : List ℕ) → unknownFormula b side ≡ false → badSide side ≡ false → Sided b side
+good-side b side known good = record { known = known; rising = booleans.not-false _ (booleans.or-false (not (strictlyRising side)) _ good .0) }
+
+short-side : (side : List ℕ) → badSide side ≡ false → length side ≤ mostOnSide
+short-side side good = ltb-false mostOnSide (length side) (booleans.or-false (not (strictlyRising side)) _ good .1)
+
+-- a row that none of the early tests refuses, ready for its rule
+pub ready : {b : Body} {r : Row} {d : Draft} {c : Counts} {left right formulas words rows leftPool rightPool : List ℕ}
+    → Ground b c formulas words rows leftPool rightPool → Drafted r d left right → first (earlyTests b r) ≡ none
+    → Judging b r formulas words rows leftPool rightPool d (take (d .left .count) left) (take (d .right .count) right)
+ready {b} {r} {d} {c} {left} {right} g drafted e =
+    record {
+      formulas-held = record { good = g .good; table = g .nodes };
+      atoms-known = g .known .atoms;
+      rows-held = g .rows-held;
+      rule = sym (drafted .rule);
+      principal = drafted .principal;
+      count = sym (ap (λ (l : Listed). l .count) (drafted .premises));
+      first-premise = sym (drafted .first-premise narrow);
+      second-premise = sym (drafted .second-premise narrow);
+      left-side = sym left-is;
+      right-side = sym right-is;
+      principal-known = known .0;
+      premises-earlier = earlier;
+      left-sided = subst (Sided b) (sym left-is) (good-side b (r .left) (known .2) (sides .0));
+      right-sided = subst (Sided b) (sym right-is) (good-side b (r .right) (known .3) (sides .1));
+    }
+  where
+    held : Held b
+    held = good-held (g .good)
+
+    known :
+        (unknownFormula b (listed (r .principal)) ≡ false) × (any (notEarlier (length (b .rows))) (r .premises) ≡ false)
+        × (unknownFormula b (r .left) ≡ false) × (unknownFormula b (r .right) ≡ false)
+    known = booleans.or-false₄ _ _ _ _ (passes 7 (earlyTests b r) e)
+
+    sides : (badSide (r .left) ≡ false) × (badSide (r .right) ≡ false)
+    sides = booleans.or-false _ _ (passes 9 (earlyTests b r) e)
+
+    earlier : (i : ℕ) → i ∈ r .premises → i < length (b .rows)
+    earlier i m = leb-false (length (b .rows)) i (booleans.any-false (notEarlier (length (b .rows))) (r .premises) (known .1) i m)
+
+    narrow : Narrow (r .premises)
+    narrow = narrow-below (length (b .rows)) (r .premises) (omega (arith, held .few-rows)) earlier
+
+    narrow-side : (side : List ℕ) → unknownFormula b side ≡ false → Narrow side
+    narrow-side side k = narrow-below (length (b .nodes)) side (omega (arith, held .few-nodes)) (known-earlier b side k)
+
+    left-is : take (d .left .count) left ≡ r .left
+    left-is =
+        ap (λ (l : Listed). take (l .count) left) (drafted .left-laid .answer)
+        ∙ drafted .left-laid .front (short-side (r .left) (sides .0)) (narrow-side (r .left) (known .2))
+
+    right-is : take (d .right .count) right ≡ r .right
+    right-is =
+        ap (λ (l : Listed). take (l .count) right) (drafted .right-laid .answer)
+        ∙ drafted .right-laid .front (short-side (r .right) (sides .1)) (narrow-side (r .right) (known .3))

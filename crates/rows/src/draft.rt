@@ -1,0 +1,15 @@
+// A row as it was read, on its way to its number.
+use text::lists::Listed;
+use text::numbers::Optional;
+
+// The code of a row's rule, its principal formula, what is known of its lists, and its first two premises, 65,535 where there is
+// none. What its sides hold stands beside it, in a slice each.
+pub struct Draft {
+    pub rule: u16,
+    pub principal: Optional,
+    pub premises: Listed,
+    pub first: u16,
+    pub second: u16,
+    pub left: Listed,
+    pub right: Listed,
+}

@@ -1,0 +1,142 @@
+// Whether a row is an instance of its rule (number 11). The sides of its premises are fetched once, and handed to the rule.
+ghost use mathlib.Core.Path.{_≡_};
+ghost use mathlib.Core.Bool.{false};
+ghost use Prim.Native.Nat.{_≤_};
+ghost use Rattle.format.specs.File.{Row, Body};
+ghost use Rattle.format.specs.Tests.{wrongPremises};
+ghost use Rattle.format.specs.Passing.{RowInstance};
+ghost use Rattle.elk.specs.Rules.{entry};
+ghost use Rattle.rules.specs.RuleTable.{stepNumber};
+ghost use Rattle.sides.specs.Deciding.{Decides};
+ghost use Rattle.rows.specs.Judging.{principalOf, Judging, Premised};
+use crate::draft::Draft;
+use cut::cut_step;
+use literals::default_step;
+use literals::initial_step;
+use rules::STEP;
+use rules::rule_number;
+use schema::schema_step;
+use tables::fetch;
+use tables::records::ABSENT;
+use tables::records::wide;
+use text::numbers::Optional;
+use unstable::unstable_step;
+
+// How the rules that are not of the table are judged; a lower number is the form that a rule of the table asks for.
+const DEFAULT: u8 = 10;
+
+const CUT: u8 = 11;
+
+const UNSTABLE: u8 = 12;
+
+const INITIAL: u8 = 13;
+
+// The principal formula as a number of a table, 65,535 if absent.
+fn principal_number(principal: Optional) -> u16
+    ensures { λ r. ⌜ r ≡ principalOf principal ⌝ }
+{
+    match principal {
+        Optional::Absent => ABSENT,
+        Optional::Value(i) => (i % 65536) as u16,
+        Optional::Bad => ABSENT,
+    }
+}
+
+// Whether a row of a rule that has premises is an instance.
+fn premised_step<'a>(
+    formulas: &[u16],
+    words: &[u64],
+    rows: &[u16],
+    left: &'a [u16],
+    right: &'a [u16],
+    draft: Draft,
+    step: u8,
+    antecedent: &[u16],
+    succedent: &[u16],
+) -> bool
+    ensures { λ r. ⌜ ((b : Body) (q : Row)
+        → Judging b q (now (formulas .entry)) (now (words .entry)) (now (rows .entry)) (now (left .entry)) (now (right .entry)) draft
+        (now (antecedent .entry)) (now (succedent .entry))
+        → wrongPremises b q ≡ false → step ≡ stepNumber (entry (q .rule)) → Premised (entry (q .rule)) → Decides (RowInstance b q) r) ⌝ }
+{
+    let principal = draft.principal;
+    let p = principal_number(principal);
+    let first = wide(draft.first);
+    let second = wide(draft.second);
+    let left_one = fetch(rows, left, right, true, first);
+    let right_one = fetch(rows, left, right, false, first);
+    let left_two = fetch(rows, left, right, true, second);
+    let right_two = fetch(rows, left, right, false, second);
+    if step == CUT {
+        return cut_step(
+            p,
+            antecedent,
+            succedent,
+            left_one,
+            right_one,
+            left_two,
+            right_two,
+        );
+    }
+    if step == UNSTABLE {
+        return unstable_step(
+            formulas,
+            words,
+            antecedent,
+            left_one,
+            right_one,
+            left_two,
+            right_two,
+        );
+    }
+    let premises = draft.premises;
+    schema_step(
+        formulas,
+        draft.rule,
+        p,
+        premises.count,
+        antecedent,
+        succedent,
+        left_one,
+        right_one,
+        left_two,
+        right_two,
+    )
+}
+
+// Whether the row is an instance of its rule.
+pub(crate) fn step_holds<'a>(
+    formulas: &[u16],
+    words: &[u64],
+    rows: &[u16],
+    left: &'a [u16],
+    right: &'a [u16],
+    draft: Draft,
+    antecedent: &[u16],
+    succedent: &[u16],
+) -> bool
+    ensures { λ r. ⌜ ((b : Body) (q : Row)
+        → Judging b q (now (formulas .entry)) (now (words .entry)) (now (rows .entry)) (now (left .entry)) (now (right .entry)) draft
+        (now (antecedent .entry)) (now (succedent .entry))
+        → wrongPremises b q ≡ false → Decides (RowInstance b q) r) ⌝ }
+{
+    let principal = draft.principal;
+    let step = rule_number(draft.rule, STEP);
+    if step == DEFAULT {
+        return default_step(formulas, principal_number(principal), antecedent, succedent);
+    }
+    if step == INITIAL {
+        return initial_step(formulas, antecedent, succedent);
+    }
+    premised_step(
+        formulas,
+        words,
+        rows,
+        left,
+        right,
+        draft,
+        step,
+        antecedent,
+        succedent,
+    )
+}

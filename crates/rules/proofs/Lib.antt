@@ -1,0 +1,2 @@
+-- Laws of the rule table as numbers.
+pub mod RuleNumbers
