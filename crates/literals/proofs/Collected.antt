@@ -38,14 +38,14 @@ module _ (test : Shape → Bool) (formulas side : List ℕ) where
   unfolding someShape
   some-iff = any-iff (λ x. test (shapeIn formulas x)) side
 
-  pub none-test : someShape test formulas side ≡ false → (x : ℕ) → x ∈ side → test (shapeIn formulas x) ≡ false
+  none-test : someShape test formulas side ≡ false → (x : ℕ) → x ∈ side → test (shapeIn formulas x) ≡ false
   none-test e x m = by (test (shapeIn formulas x)) refl
     where
       by : (t : Bool) → test (shapeIn formulas x) ≡ t → t ≡ false
       by true k = absurd (true≢false (sym (some-iff .1 (x, m, k)) ∙ e))
       by false k = refl
 
-  pub test-none : ((x : ℕ) → x ∈ side → test (shapeIn formulas x) ≡ false) → someShape test formulas side ≡ false
+  test-none : ((x : ℕ) → x ∈ side → test (shapeIn formulas x) ≡ false) → someShape test formulas side ≡ false
   test-none h = by (someShape test formulas side) refl
     where
       by : (t : Bool) → someShape test formulas side ≡ t → t ≡ false

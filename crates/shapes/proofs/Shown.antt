@@ -127,14 +127,8 @@ pub data Shows (b : Body) : Formula → Shape → Type 0 where
   shows-disjunction : {A B : Formula} {i j : ℕ} → Operands b i j A B → Shows b (disj A B) (Disjunction i j)
   shows-other : {F : Formula} → Unnamed F → Shows b F Other
 
--- the shape of ~p, both ways, and of ~~p
+-- the shapes of ~p and of ~~p
 module _ {b : Body} {F : Formula} {s : Shape} {p : ℕ} (h : Shows b F s) where
-  pub shown-negated : s ≡ Negated p → F ≡ neg (atom p)
-  shown-negated e = by (subst (λ (s : Shape). Shows b F s) e h)
-    where
-      by : {F : Formula} → Shows b F (Negated p) → F ≡ neg (atom p)
-      by (shows-negated l) = refl
-
   pub negated-shown : F ≡ neg (atom p) → s ≡ Negated p
   negated-shown e = by (subst (λ (F : Formula). Shows b F s) e h)
     where

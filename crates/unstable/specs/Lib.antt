@@ -1,0 +1,3 @@
+pub mod Joins
+pub mod Fixing
+pub mod Unstable
