@@ -2,15 +2,14 @@
 -- equal numbers.
 use Prim.Native.Nat.{ℕ, zero, suc, _+_, _≤_, _<_}
 use native.Mathlib.Omega.{arith}
-use mathlib.Core.Path.{_≡_, refl, sym, ap, ap₂, _∙_}
+use mathlib.Core.Path.{_≡_, refl, sym, ap, ap₂, subst, _∙_}
 use mathlib.Core.Bool.{false}
-use mathlib.Core.List.{List, [], _∷_, _++_, append-assoc, List·Memᴰ·head, List·Memᴰ·tail, List·Memᴰ·not-nil, List·Memᴰ·cases-cons}
-use mathlib.Core.Logic.{_⊎_, inl, inr}
+use mathlib.Core.List.{List, [], _∷_, _++_, append-assoc, List·Memᴰ·head, List·Memᴰ·tail}
 use lib.ListN.{length, take, drop, length-append, List·getD-append}
 use lib.Seq.{getD-at, split-at, length-take-le}
 use borrow.Author.Tests.{leb-false}
 use Rattle.equilibrium.specs.Meaning.{_∈_}
-use Rattle.format.proofs.GoodBodies.{Held, beforeNode, nodeAt}
+use Rattle.format.proofs.GoodBodies.{in-place, Held, beforeNode, nodeAt}
 use Rattle.format.proofs.Booleans.{any-false}
 use Rattle.equilibrium.specs.Formula.{Formula, falsum, neg, conj, disj, imp}
 use Rattle.elk.proofs.Equality.{formula-discrete}
@@ -153,15 +152,21 @@ position-first (B ∷ Bs) (suc i) h = cases (formula-discrete (formulaAt Bs i) B
 
 -- a formula's place is found among those before which it stands
 pub position-among : (ts us : List Formula) (A : Formula) → A ∈ ts → (position (ts ++ us) A < length ts) × (formulaAt ts (position (ts ++ us) A) ≡ A)
-unfolding position
-position-among [] us A m = absurd (List·Memᴰ·not-nil m)
-position-among (B ∷ Bs) us A m = cases (formula-discrete A B) (λ k. position-among Bs us A k) (List·Memᴰ·cases-cons m)
+position-among ts us A m = (before, sym (List·getD-append ts us falsum (position (ts ++ us) A) before) ∙ found .1)
   where
-    cases : (d : Dec (A ≡ B)) → (A ∈ Bs → (position (Bs ++ us) A < length Bs) × (formulaAt Bs (position (Bs ++ us) A) ≡ A)) → (A ≡ B) ⊎ (A ∈ Bs)
-        → (atOr d (position (Bs ++ us) A) < length (B ∷ Bs)) × (formulaAt (B ∷ Bs) (atOr d (position (Bs ++ us) A)) ≡ A)
-    cases (yes e) rest k = (omega arith, sym e)
-    cases (no n) rest (inl e) = absurd (n e)
-    cases (no n) rest (inr k) = (omega (arith, rest k .0), rest k .1)
+    at : (i : ℕ) × (i < length ts) × (formulaAt ts i ≡ A)
+    at = in-place ts falsum m
+
+    own : formulaAt (ts ++ us) (at .0) ≡ A
+    own = List·getD-append ts us falsum (at .0) (at .1) ∙ at .2
+
+    found : (position (ts ++ us) A ≤ at .0) × (formulaAt (ts ++ us) (position (ts ++ us) A) ≡ A)
+    found =
+        subst (λ (B : Formula). (position (ts ++ us) B ≤ at .0) × (formulaAt (ts ++ us) (position (ts ++ us) B) ≡ B)) own
+        (position-first (ts ++ us) (at .0) (omega (arith, at .1, length-append ts us)))
+
+    before : position (ts ++ us) A < length ts
+    before = omega (arith, at .1, found .0)
 
 module _ (b : Body) (held : Held b) where
   all-formulas : List Formula

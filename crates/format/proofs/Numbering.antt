@@ -221,8 +221,8 @@ module _ (whole : List Formula) where
       split = e ∙ append-assoc fs (A ∷ []) rest
 
   module _ (numbering : Numbering whole) (atoms : ℕ) (few : (p : ℕ) → atom p ∈ whole → p < atoms) where
-    node-back : (A : Formula) → A ∈ whole → formulaOf whole (nodeOf A) ≡ A
-    node-back A m = formula-back (position whole) whole A (λ B k. place whole [] (sym (append-nil whole)) B (closed numbering A m B k) .1)
+    node-stands : (A : Formula) → A ∈ whole → formulaOf whole (nodeOf A) ≡ A
+    node-stands A m = formula-back (position whole) whole A (λ B k. place whole [] (sym (append-nil whole)) B (closed numbering A m B k) .1)
 
     abbrev over : List Node → Body
     over nodes = record { atoms = atoms; nodes = nodes; rows = [] }
@@ -262,7 +262,7 @@ module _ (whole : List Formula) where
         fresh : nodeOf A ∈ map nodeOf fs → ⊥
         fresh m =
             let B = Memᴰ·of-map nodeOf fs m in
-            let same = sym (node-back (B .0) (among (Memᴰ·append-left (A ∷ rest) (B .1)))) ∙ ap (formulaOf whole) (B .2) ∙ node-back A here in
+            let same = sym (node-stands (B .0) (among (Memᴰ·append-left (A ∷ rest) (B .1)))) ∙ ap (formulaOf whole) (B .2) ∙ node-stands A here in
             new (Memᴰ·cast (sym same) (B .1))
 
         passing : first (nodeTests (over (map nodeOf fs)) (nodeOf A)) ≡ none

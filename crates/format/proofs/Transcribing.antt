@@ -181,8 +181,8 @@ module _ (atoms : ℕ) (nodes : List Node) (As : List Formula) (number : (A : Fo
       back : (A : Formula) → A ∈ L → (i : ℕ) × (i < length nodes) × (decodedAt nodes i ≡ A) → A ∈ decoded nodes (side L)
       back A m i = Memᴰ·cast (sym (i .2)) (Memᴰ·map (decodedAt nodes) (in-side L (i .0) .1 (i .1, Memᴰ·cast (i .2) m)))
 
-  side-known : (L : List Formula) → any (notEarlier (length nodes)) (side L) ≡ false
-  side-known L = none-later (length nodes) (side L) (λ i m. in-side L i .0 m .0)
+  side-there : (L : List Formula) → any (notEarlier (length nodes)) (side L) ≡ false
+  side-there L = none-later (length nodes) (side L) (λ i m. in-side L i .0 m .0)
 
   side-rises : (L : List Formula) → strictlyRising (side L) ≡ true
   unfolding side
@@ -241,8 +241,8 @@ module _ (atoms : ℕ) (nodes : List Node) (As : List Formula) (number : (A : Fo
           right-room = right-count atoms nodes before q w;
           principal-known = named .2;
           premises-earlier = none-later (length before) (above .numbers) (above .earlier);
-          left-known = side-known (s .left);
-          right-known = side-known (s .right);
+          left-known = side-there (s .left);
+          right-known = side-there (s .right);
           left-good = side-good (s .left) (w .left q last);
           right-good = side-good (s .right) (w .right q last);
         }
@@ -339,12 +339,12 @@ transcript-ends {atoms} e t =
     (last .0, last .1, last .2, same-trans (last .3) (e .ends))
 
 last-is : (rows before : List Row) (q : Row) → rows ≡ before ++ q ∷ [] → kindOf (entry (q .rule)) ≡ elk → lastIs rows (q .left) (q .right) ≡ true
-last-is rows before q split e = rw split (at-end before)
+last-is rows before q split e = rw split (ends before)
   where
-    at-end : (before : List Row) → lastIs (before ++ q ∷ []) (q .left) (q .right) ≡ true
-    at-end [] = rw (e, list-same (q .left), list-same (q .right))
-    at-end (r ∷ []) = at-end []
-    at-end (r ∷ p ∷ ps) = at-end (p ∷ ps)
+    ends : (before : List Row) → lastIs (before ++ q ∷ []) (q .left) (q .right) ≡ true
+    ends [] = rw (e, list-same (q .left), list-same (q .right))
+    ends (r ∷ []) = ends []
+    ends (r ∷ p ∷ ps) = ends (p ∷ ps)
 
 -- where the names are good as far as there may be so many
 named-text : (names : List Bytes) → (length names ≤ mostAtoms → GoodNames (length names) (namesIn names)) → {L R : List Formula} (e : EndsIn L R)

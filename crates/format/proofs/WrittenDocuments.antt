@@ -19,7 +19,8 @@ use Rattle.format.specs.Judged.{top, beginning, accepted, finish, answer
 use Rattle.format.specs.Judged.{withAtom, withNode, withRow, withClaim, nameStart}
 use Rattle.format.specs.Good.{bare, GoodBody, atoms, formula, row, spellings, GoodNames}
 use Rattle.format.specs.Written.{Each, decimal, Small, nodeNumbers, Writable, bytesOf}
-use Rattle.format.specs.Document.{Document, numbered, linesIn, written, namesFrom, namesIn, bodyOf, fileOf, GoodDocument}
+use Rattle.format.specs.Document.{Document, numbered, atomLines, formulaLines, rowLines, linesIn, written}
+use Rattle.format.specs.Document.{namesFrom, namesIn, bodyOf, fileOf, GoodDocument}
 use Rattle.format.proofs.Booleans.{or-false, same-list, any-none}
 use Rattle.format.proofs.Fold.{placeAfter, run-append}
 use Rattle.format.proofs.Stepping.{first-passes, step-atom, step-formula, step-row, step-claim}
@@ -167,25 +168,46 @@ row-writable b r l ok =
 
 -- ---- A, F and N lines
 
--- the lines of a body, with these names for its atoms
+-- a body with names for its atoms, before there is a claim
+abbrev claimless : List Bytes → Body → Document
+claimless names b = record { names = names; nodes = b .nodes; rows = b .rows; left = []; right = [] }
+
+-- its lines
 abbrev linesBefore : List Bytes → Body → List Line
-linesBefore names b = numbered atomLine 0 names ++ (numbered formulaLine 0 (b .nodes) ++ numbered rowLine 0 (b .rows))
+linesBefore names b = atomLines (claimless names b) ++ (formulaLines (claimless names b) ++ rowLines (claimless names b))
 
 numbered-snoc : {X : Type 0} (line : ℕ → X → Line) (n : ℕ) (xs : List X) (x : X) (k : ℕ) → k ≡ n + length xs
     → numbered line n (xs ++ x ∷ []) ≡ numbered line n xs ++ line k x ∷ []
 numbered-snoc line n [] x k e = let same : n ≡ k = omega arith in ap (λ (m : ℕ). line m x ∷ []) same
 numbered-snoc line n (y ∷ ys) x k e = ap (λ (ls : List Line). line n y ∷ ls) (numbered-snoc line (n + 1) ys x k (omega arith))
 
+-- the number of a line is the count of those before it
+
+formula-line : (names : List Bytes) (b : Body) (node : Node)
+    → formulaLines (claimless names (addNode b node)) ≡ formulaLines (claimless names b) ++ formulaLine (length (b .nodes)) node ∷ []
+formula-line names b node = numbered-snoc formulaLine _ (b .nodes) node (length (b .nodes)) (omega arith)
+
+row-line : (names : List Bytes) (b : Body) (r : Row)
+    → rowLines (claimless names (addRow b r)) ≡ rowLines (claimless names b) ++ rowLine (length (b .rows)) r ∷ []
+row-line names b r = numbered-snoc rowLine _ (b .rows) r (length (b .rows)) (omega arith)
+
 lines-node : (names : List Bytes) (b : Body) (node : Node) → b .rows ≡ []
     → linesBefore names b ++ formulaLine (length (b .nodes)) node ∷ [] ≡ linesBefore names (addNode b node)
 lines-node names b node none-yet =
-    let one = numbered-snoc formulaLine 0 (b .nodes) node (length (b .nodes)) (omega arith) in
-    rw (none-yet, one) (simp (append-nil, append-assoc))
+    before-none (atomLines d) (formulaLines d) (rowLines d) (formulaLine (length (b .nodes)) node) no-rows
+    ∙ ap (λ (fs : List Line). atomLines d ++ (fs ++ rowLines d)) (sym (formula-line names b node))
+  where
+    d : Document
+    d = claimless names b
+
+    no-rows : rowLines d ≡ []
+    no-rows = ap (λ (rs : List Row). rowLines (record { names = names; nodes = b .nodes; rows = rs; left = []; right = [] })) none-yet
+
+    before-none : (ls ms ns : List Line) (l : Line) → ns ≡ [] → (ls ++ (ms ++ ns)) ++ l ∷ [] ≡ ls ++ ((ms ++ l ∷ []) ++ ns)
+    before-none ls ms ns l e = rw e (simp (append-nil, append-assoc))
 
 lines-row : (names : List Bytes) (b : Body) (r : Row) → linesBefore names b ++ rowLine (length (b .rows)) r ∷ [] ≡ linesBefore names (addRow b r)
-lines-row names b r =
-    let one = numbered-snoc rowLine 0 (b .rows) r (length (b .rows)) (omega arith) in
-    rw (one, append-assoc, append-assoc)
+lines-row names b r = rw (row-line names b r) (simp append-assoc)
 
 -- the lines of a body lead to it
 record LeadsTo (names : List Bytes) (b : Body) : Type 0 where

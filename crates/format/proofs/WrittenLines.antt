@@ -141,19 +141,19 @@ fields-without s h l w = each-weaker Visible (Without s) (visible-without s h) (
 
 -- ---- a line is read back
 
-node-back : (n : ℕ) → Small n → (node : Node) → Each Small (nodeNumbers node)
+formula-fields-back : (n : ℕ) → Small n → (node : Node) → Each Small (nodeNumbers node)
     → formulaFields (decimal n ∷ nodeBytes node) ≡ some (formulaLine n node)
 unfolding formulaFields nodeOf sameList
-node-back n k Node.bot h = rw (number-back n k)
-node-back n k (Node.atom i) h = rw (number-back n k, number-back i (h .0))
-node-back n k (Node.not i) h = rw (number-back n k, number-back i (h .0))
-node-back n k (Node.and i j) h = rw (number-back n k, number-back i (h .0), number-back j (h .1 .0))
-node-back n k (Node.or i j) h = rw (number-back n k, number-back i (h .0), number-back j (h .1 .0))
-node-back n k (Node.imp i j) h = rw (number-back n k, number-back i (h .0), number-back j (h .1 .0))
+formula-fields-back n k Node.bot h = rw (number-back n k)
+formula-fields-back n k (Node.atom i) h = rw (number-back n k, number-back i (h .0))
+formula-fields-back n k (Node.not i) h = rw (number-back n k, number-back i (h .0))
+formula-fields-back n k (Node.and i j) h = rw (number-back n k, number-back i (h .0), number-back j (h .1 .0))
+formula-fields-back n k (Node.or i j) h = rw (number-back n k, number-back i (h .0), number-back j (h .1 .0))
+formula-fields-back n k (Node.imp i j) h = rw (number-back n k, number-back i (h .0), number-back j (h .1 .0))
 
-row-back : (n : ℕ) (r : Row) → Writable (rowLine n r) → rowFields (decimal n ∷ rowBytes r) ≡ some (rowLine n r)
+row-fields-back : (n : ℕ) (r : Row) → Writable (rowLine n r) → rowFields (decimal n ∷ rowBytes r) ≡ some (rowLine n r)
 unfolding rowFields
-row-back n r w =
+row-fields-back n r w =
     let principal = principal-back (r .principal) (w .1) in
     let premises = list-back (r .premises) (w .2) in
     rw (number-back n (w .0), rule-word (r .rule) .0, principal, premises, list-back (r .left) (w .3), list-back (r .right) (w .4))
@@ -161,8 +161,8 @@ row-back n r w =
 kind-back : (l : Line) → Writable l → ofKind (fieldBytes l) ≡ some l
 unfolding atomFields claimFields sameList
 kind-back (atomLine n name) w = rw (number-back n (w .0))
-kind-back (formulaLine n node) w = node-back n (w .0) node (w .1)
-kind-back (rowLine n r) w = row-back n r w
+kind-back (formulaLine n node) w = formula-fields-back n (w .0) node (w .1)
+kind-back (rowLine n r) w = row-fields-back n r w
 kind-back (claimLine left right) w = rw (list-back left (w .0), list-back right (w .1))
 
 -- the fields of a line are those that were written

@@ -1,4 +1,5 @@
--- What the lent tables hold (paper 01, "Lent tables hold 16-bit numbers"), and how a side is fetched out of them.
+-- What the lent tables hold (paper 01, "Lent tables hold 16-bit numbers"), and how a side is fetched out of them. Each of
+-- the five holds records one after the other, and zeros after the last; the limits of 01 are here.
 use Prim.Native.Nat.{ℕ, _+_, _-_, _*_}
 use mathlib.Core.Bool.{Bool, cond, _||_}
 use mathlib.Core.List.{List, [], _∷_, _++_}
