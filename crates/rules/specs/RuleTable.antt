@@ -56,10 +56,12 @@ stepNumber cut = 11
 stepNumber unstable = 12
 stepNumber initial = 13
 
+-- 0 for ELK, 1 for refutation
 abbrev pub kindNumber : Kind → ℕ
 kindNumber elk = 0
 kindNumber refutation = 1
 
+-- 1 for what is there, 0 for what is not
 abbrev pub truthNumber : Bool → ℕ
 truthNumber false = 0
 truthNumber true = 1
@@ -70,6 +72,7 @@ kindNumbers [] = 2 ∷ 2 ∷ []
 kindNumbers (k ∷ []) = kindNumber k ∷ 2 ∷ []
 kindNumbers (k ∷ j ∷ js) = kindNumber k ∷ kindNumber j ∷ []
 
+-- 0 is left for no part
 abbrev pub partNumber : Part → ℕ
 partNumber Part.P = 1
 partNumber Part.A = 2
@@ -83,9 +86,11 @@ partNumbers [] = 0 ∷ 0 ∷ []
 partNumbers (x ∷ []) = partNumber x ∷ 0 ∷ []
 partNumbers (x ∷ y ∷ ys) = partNumber x ∷ partNumber y ∷ []
 
+-- a sequent that is L and R alone
 abbrev pub nothing : Added
 nothing = record { left = []; right = [] }
 
+-- what premise i adds, nothing where there is none
 abbrev pub premiseAt : List Added → ℕ → Added
 premiseAt premises i = getD premises i nothing
 
@@ -99,7 +104,7 @@ addedSides cut = replicate 6 []
 addedSides unstable = replicate 6 []
 addedSides initial = replicate 6 []
 
--- the numbers of one rule
+-- the numbers of an entry of the table, and of a rule
 abbrev pub entryNumbers : Entry → List ℕ
 entryNumbers e =
     stepNumber e ∷ kindNumber (kindOf e) ∷ truthNumber (hasPrincipal e) ∷ length (premiseKinds e)

@@ -1,6 +1,6 @@
 -- Sides of numbers and the sides of formulas they stand for: they share a set alike, since in a held body a formula has one
 -- number. Assumes that the numbers of the sides are known, and that what is added stands for formulas on its side.
-use Prim.Native.Nat.{ℕ, _≤_, _<_}
+use Prim.Native.Nat.{ℕ, _≤_}
 use native.Mathlib.Omega.{arith}
 use mathlib.Core.Bool.{Bool, false, cond}
 use mathlib.Core.List.{List, [], _∷_, List·Memᴰ·head, List·Memᴰ·tail, List·Memᴰ·cases-cons, List·Memᴰ·not-nil}

@@ -1,7 +1,7 @@
 -- A formula taken apart by its record: each case of `splitIn` and `partsIn`.
 use Prim.Native.Nat.{ℕ, _-_, _≤_, _<_}
 use mathlib.Core.List.{List}
-use mathlib.Core.Path.{_≡_, refl}
+use mathlib.Core.Path.{_≡_}
 use borrow.Author.Tests.{eq-eqb, ne-eqb, lt-ltb, le-ltb}
 use Rattle.schema.specs.Principal.{recordAt, fitting, misfitting, splitIn, partsIn}
 

@@ -22,7 +22,7 @@ use Rattle.format.proofs.Booleans.{or-false}
 use Rattle.format.proofs.Formulas.{known-earlier, equal-numbers}
 use Rattle.format.proofs.GoodBodies.{good-held}
 use Rattle.tables.specs.Holding.{Formulas}
-use Rattle.tables.proofs.Reading.{Told, told, by-word, by-formula}
+use Rattle.tables.proofs.Reading.{told, by-word, by-formula}
 use Rattle.rules.specs.RuleTable.{partNumber, partNumbers, addedSides, ruleNumbers, ruleNumber, partsFrom}
 use Rattle.rules.proofs.RuleNumbers.{rule-number}
 use Rattle.sides.specs.Numbers.{noNumber, missing}

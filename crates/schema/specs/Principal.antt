@@ -12,9 +12,11 @@ use Rattle.schema.specs.declared.parts.Parts.{Parts}
 abbrev pub recordAt : List ℕ → ℕ → NodeRecord
 recordAt formulas i = nodeOf (nodeAt formulas i)
 
+-- a formula of the form, with its parts
 abbrev pub fitting : ℕ → ℕ → ℕ → Parts
 fitting whole first second = record { fits = true; whole = whole; first = first; second = second }
 
+-- a formula of another form
 abbrev pub misfitting : ℕ → Parts
 misfitting whole = record { fits = false; whole = whole; first = whole; second = whole }
 

@@ -24,6 +24,7 @@ pub record Sides : Type 0 where
   pub right : List ℕ
 
 infix 4 _⊣_
+-- these two sides
 abbrev pub _⊣_ : List ℕ → List ℕ → Sides
 left ⊣ right = record { left = left; right = right }
 
@@ -38,6 +39,7 @@ pub record Handed : Type 0 where
   pub two : Sides
 
 module _ (h : Handed) where
+  -- the sides of the premises that there are
   abbrev pub premisesOf : List Sides
   premisesOf = take (h .count) (h .one ∷ h .two ∷ [])
 
@@ -61,6 +63,7 @@ module _ (h : Handed) where
 abbrev pub sequentWith : List Node → Kind → Sides → Sequent
 sequentWith nodes k s = record { kind = k; left = decoded nodes (s .left); right = decoded nodes (s .right) }
 
+-- both sides are of known formulas
 pub record KnownSides (b : Body) (s : Sides) : Type 0 where
   pub left : unknownFormula b (s .left) ≡ false
   pub right : unknownFormula b (s .right) ≡ false

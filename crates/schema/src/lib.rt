@@ -11,7 +11,7 @@ ghost use Rattle.elk.specs.CommonSets.{Shared};
 ghost use Rattle.sides.specs.Deciding.{DecidesIf};
 ghost use Rattle.sides.specs.Members.{AllRise};
 ghost use Rattle.schema.specs.Additions.{sidesIn};
-ghost use Rattle.schema.specs.SchemaRows.{_⊣_, Handed, SchemaAnswer};
+ghost use Rattle.schema.specs.SchemaRows.{_⊣_, SchemaAnswer};
 use additions::added;
 use parts::Parts;
 use parts::parts_of;

@@ -51,7 +51,7 @@ pub fn fit(a: &[u16], at_a: Numbers, b: &[u16], at_b: Numbers) -> bool
     covered(b, at_b.x, at_b.y, a)
 }
 
-// Whether some set gives all three sides, each with what is added to it. Two that fit the first may differ between them.
+// Whether some set gives all three sides, each with what is added to it. Two that each fit the first need not fit each other.
 pub fn three_fit(
     a: &[u16],
     at_a: Numbers,

@@ -1,6 +1,6 @@
 -- `rules::rule_number` meets its contract: it reads one digit of the rule's packed numbers.
 use Prim.Native.Nat.{ℕ, _*_, _-_, _/_, _%_, _^_, _<_}
-use mathlib.Core.Path.{_≡_, sym, ap, _∙_}
+use mathlib.Core.Path.{sym, ap, _∙_}
 use borrow.Author.Needs.{needs}
 use lib.ListN.{getD}
 use Rattle.rules.specs.RuleTable.{packedRules, countOfNumbers, ruleNumber}

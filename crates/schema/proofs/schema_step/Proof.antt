@@ -1,6 +1,6 @@
 -- `schema::schema_step` meets its contract: the principal formula is of the rule's form, and the left and the right sides fit.
 use Prim.Native.Nat.{ℕ}
-use mathlib.Core.Path.{_≡_, ap, _∙_}
+use mathlib.Core.Path.{ap, _∙_}
 use borrow.Author.Needs.{needs}
 use borrow.Author.Tests.{not-true, not-false}
 use Rattle.schema.specs.Principal.{partsIn}

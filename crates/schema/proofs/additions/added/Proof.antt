@@ -1,8 +1,7 @@
 -- `schema::additions::added` meets its contract: the table has the rule's parts at the place, and each is looked for on the side.
 use Prim.Native.Nat.{ℕ}
-use mathlib.Core.Path.{_≡_, ap, ap₂, _∙_}
+use mathlib.Core.Path.{ap, ap₂, _∙_}
 use borrow.Author.Needs.{needs}
-use Rattle.sides.specs.declared.numbers.Numbers.{Numbers}
 use Rattle.schema.specs.Additions.{partIn}
 use Rattle.schema.proofs.additions.added.Statement.{statement}
 use Rattle.schema.proofs.additions.added.Tie as tie

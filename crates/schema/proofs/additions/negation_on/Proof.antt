@@ -1,8 +1,7 @@
 -- `schema::additions::negation_on` meets its contract. The loop's invariant: the negation is looked for in the rest from i.
 use Prim.Native.Nat.{ℕ, _+_, _-_, _≤_, _<_}
 use native.Mathlib.Numerals.{add-one}
-use native.Mathlib.Omega.{arith}
-use mathlib.Core.Bool.{Bool, _&&_, cond, and-false}
+use mathlib.Core.Bool.{_&&_, cond, and-false}
 use mathlib.Core.List.{List}
 use mathlib.Core.Logic.{⊎-elim}
 use mathlib.Core.Path.{_≡_, refl, sym, ap, _∙_}

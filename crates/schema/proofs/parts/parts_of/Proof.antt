@@ -1,5 +1,5 @@
 -- `schema::parts::parts_of` meets its contract, case by case.
-use Prim.Native.Nat.{ℕ, _-_}
+use Prim.Native.Nat.{_-_}
 use mathlib.Core.Path.{_≡_, sym, ap, _∙_}
 use borrow.Author.Needs.{needs}
 use Rattle.tables.specs.declared.records.NodeRecord.{NodeRecord}

@@ -1,5 +1,4 @@
 -- `schema::parts::split` meets its contract, case by case.
-use Prim.Native.Nat.{ℕ}
 use mathlib.Core.Path.{_≡_, sym, ap, _∙_}
 use borrow.Author.Needs.{needs}
 use Rattle.tables.specs.declared.records.NodeRecord.{NodeRecord}

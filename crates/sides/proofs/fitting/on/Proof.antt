@@ -9,7 +9,7 @@ use Rattle.sides.proofs.fitting.on.Statement.{statement}
 use Rattle.sides.proofs.fitting.on.Tie as tie
 
 returns : tie.Need-returns
-returns c = decides-yes (λ n. absurd (n (c .if1 .taken)))
+returns c = decides-yes (λ n. absurd (n (omega arith)))
 
 returns-2 : tie.Need-returns-2
 returns-2 c = decides-no (λ h. omega (arith, small _ (λ i. omega (arith, c .before .before .shared-slice-known .given i)) _ (h (c .before .if1 .left))))
