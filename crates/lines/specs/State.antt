@@ -30,13 +30,13 @@ refusedBy s number line = record { number = number; line = line; state = s }
 abbrev pub passedBy : State → Counts → ℕ → ℕ → Stepped
 passedBy s counts stage line = record { number = 0; line = line; state = record { counts = counts; stage = stage; claim = s .claim } }
 
--- a line of the stage `next` may not follow, by the numbers of the stages
+-- a line of the stage `coming` may not follow, by the numbers of the stages
 unfoldable pub outOfTurn : ℕ → ℕ → Bool
-outOfTurn stage next = not (leb stage next && ltb stage 3)
+outOfTurn stage coming = not (leb stage coming && ltb stage 3)
 
 -- the same, or its number is not the next one
 unfoldable pub notNext : ℕ → ℕ → ℕ → ℕ → Bool
-notNext stage next held number = outOfTurn stage next || not (eqb number held)
+notNext stage coming held number = outOfTurn stage coming || not (eqb number held)
 
 abbrev pub claimLine : Option Claim → ℕ
 claimLine none = 0

@@ -1,0 +1,2 @@
+-- Laws of lines: those of any kind, and those of each kind.
+pub mod LineLaws

@@ -1,0 +1,279 @@
+-- Lines of any kind: what is read of one by its kind and the count of its fields, its order, the number that it earns, what a line
+-- that is refused comes to and one that passes, and what the tables hold.
+use Prim.Native.Nat.{ℕ, zero, suc, _+_, _≤_, _<_}
+use native.Mathlib.Omega.{arith}
+use mathlib.Core.Path.{_≡_, refl, sym, ap, ap₂, subst, _∙_}
+use mathlib.Core.Bool.{Bool, true, false, not, cond, true≢false, false≢true}
+use mathlib.Core.List.{List, [], _∷_, _++_}
+use mathlib.Core.Option.{Option, none, some}
+use lib.Dec.{leb}
+use lib.ListN.{length, getD, take, drop, length-append, length-take, length-drop}
+use borrow.Author.Tests.{eq-eqb, ne-eqb, leb-true}
+use Rattle.elk.specs.Rules.{Rule}
+use Rattle.format.specs.Text.{Bytes, bytes, _<$>_, _<*>_, onlyIf, fieldsOf, sameList, numberOf, principalOf, listOf}
+use Rattle.format.specs.File.{Row, Stage, File}
+use Rattle.format.specs.Line.{
+  Line,
+  atomLine,
+  formulaLine,
+  rowLine,
+  claimLine,
+  nodeOf,
+  ruleOf,
+  makeRow,
+  ofFields,
+  atomFields,
+  formulaFields,
+  rowFields,
+  claimFields,
+  ofKind,
+  lineOf,
+}
+use Rattle.format.specs.Tables.{padded, joinAll, mostBytes}
+use Rattle.format.specs.Tests.{rank, mayFollow, outOfOrder}
+use Rattle.format.specs.Judged.{Place, Outcome, next, refused, settled, step}
+use Rattle.format.specs.Good.{Good}
+use Rattle.format.proofs.Stepping.{step-bad}
+use Rattle.text.specs.Numbers.{numberAs}
+use Rattle.text.specs.Lists.{listedAs}
+use Rattle.text.specs.Refusals.{badLine}
+use Rattle.text.specs.declared.numbers.Number.{Number}
+use Rattle.text.specs.declared.lists.Listed.{Listed}
+use Rattle.tables.specs.Records.{written}
+use Rattle.tables.specs.Holding.{HoldsNodes, HoldsRows}
+use Rattle.tables.proofs.Placed.{written-inside}
+use Rattle.tables.proofs.Encoded.{begins-padded, put-encoded}
+use Rattle.rows.specs.Early.{numbered}
+use Rattle.rows.specs.Judgement.{Ground}
+use Rattle.lines.specs.State.{refusedBy, outOfTurn, notNext, Contents, SameLengths, Exactly, Stored, Steps, Keeps}
+use Rattle.lines.specs.Lined.{OfKind, Lined}
+use Rattle.lines.specs.declared.state.State.{State}
+use Rattle.lines.specs.declared.state.Stepped.{Stepped}
+
+-- ---- the fields of a line
+
+not-empty : {x : ℕ} {xs : Bytes} → _≡_ {A = Bytes} [] (x ∷ xs) → ⊥
+not-empty e = let z : _≡_ {A = ℕ} 0 1 = cc in omega arith
+
+counted : (count : ℕ) (kind : Bytes) (fields : List Bytes) (o : Option Line) → length (kind ∷ fields) ≡ suc count → ofFields count fields o ≡ o
+counted count kind fields o h = ap (λ (b : Bool). onlyIf b o) (eq-eqb (length fields) count (omega arith))
+
+miscounted : (count : ℕ) (kind : Bytes) (fields : List Bytes) (o : Option Line) → (length (kind ∷ fields) ≡ suc count → ⊥) → ofFields count fields o ≡ none
+miscounted count kind fields o h = ap (λ (b : Bool). onlyIf b o) (ne-eqb (length fields) count (λ e. h (omega arith)))
+
+-- what the fields after the kind write, each read or badly written
+abbrev pub atomWritten : Bytes → Option ℕ → Option Line
+atomWritten name number = (λ n. atomLine n name) <$> number
+
+abbrev pub claimWritten : Option (List ℕ) → Option (List ℕ) → Option Line
+claimWritten left right = (λ l r. claimLine l r) <$> left <*> right
+
+abbrev pub rowWritten : Option ℕ → Option Rule → Option (Option ℕ) → Option (List ℕ) → Option (List ℕ) → Option (List ℕ) → Option Line
+rowWritten number rule principal premises left right =
+    (λ n row. rowLine n row) <$> number <*> (makeRow <$> rule <*> principal <*> premises <*> left <*> right)
+
+atom-fields : (fs : List Bytes) → getD fs 0 [] ≡ bytes "A" → length fs ≡ 3 → ofKind fs ≡ atomWritten (getD fs 2 []) (numberOf (getD fs 1 []))
+unfolding sameList atomFields
+atom-fields [] e h = absurd (not-empty e)
+atom-fields (kind ∷ fs) e h = ap (λ (k : Bytes). ofKind (k ∷ fs)) e ∙ counted 2 kind fs _ h
+
+atom-count : (fs : List Bytes) → getD fs 0 [] ≡ bytes "A" → (length fs ≡ 3 → ⊥) → ofKind fs ≡ none
+unfolding sameList atomFields
+atom-count [] e h = absurd (not-empty e)
+atom-count (kind ∷ fs) e h = ap (λ (k : Bytes). ofKind (k ∷ fs)) e ∙ miscounted 2 kind fs _ h
+
+formula-fields : (fs : List Bytes) → getD fs 0 [] ≡ bytes "F" → length fs ≡ 5
+    → ofKind fs ≡ (λ n node. formulaLine n node) <$> numberOf (getD fs 1 []) <*> nodeOf (getD fs 2 []) (getD fs 3 []) (getD fs 4 [])
+unfolding sameList formulaFields
+formula-fields [] e h = absurd (not-empty e)
+formula-fields (kind ∷ fs) e h = ap (λ (k : Bytes). ofKind (k ∷ fs)) e ∙ counted 4 kind fs _ h
+
+formula-count : (fs : List Bytes) → getD fs 0 [] ≡ bytes "F" → (length fs ≡ 5 → ⊥) → ofKind fs ≡ none
+unfolding sameList formulaFields
+formula-count [] e h = absurd (not-empty e)
+formula-count (kind ∷ fs) e h = ap (λ (k : Bytes). ofKind (k ∷ fs)) e ∙ miscounted 4 kind fs _ h
+
+row-fields : (fs : List Bytes) → getD fs 0 [] ≡ bytes "N" → length fs ≡ 7
+    → ofKind fs
+    ≡ rowWritten (numberOf (getD fs 1 [])) (ruleOf (getD fs 2 [])) (principalOf (getD fs 3 [])) (listOf (getD fs 4 [])) (listOf (getD fs 5 []))
+    (listOf (getD fs 6 []))
+unfolding sameList rowFields
+row-fields [] e h = absurd (not-empty e)
+row-fields (kind ∷ fs) e h = ap (λ (k : Bytes). ofKind (k ∷ fs)) e ∙ counted 6 kind fs _ h
+
+row-count : (fs : List Bytes) → getD fs 0 [] ≡ bytes "N" → (length fs ≡ 7 → ⊥) → ofKind fs ≡ none
+unfolding sameList rowFields
+row-count [] e h = absurd (not-empty e)
+row-count (kind ∷ fs) e h = ap (λ (k : Bytes). ofKind (k ∷ fs)) e ∙ miscounted 6 kind fs _ h
+
+claim-fields : (fs : List Bytes) → getD fs 0 [] ≡ bytes "C" → length fs ≡ 3 → ofKind fs ≡ claimWritten (listOf (getD fs 1 [])) (listOf (getD fs 2 []))
+unfolding sameList claimFields
+claim-fields [] e h = absurd (not-empty e)
+claim-fields (kind ∷ fs) e h = ap (λ (k : Bytes). ofKind (k ∷ fs)) e ∙ counted 2 kind fs _ h
+
+claim-count : (fs : List Bytes) → getD fs 0 [] ≡ bytes "C" → (length fs ≡ 3 → ⊥) → ofKind fs ≡ none
+unfolding sameList claimFields
+claim-count [] e h = absurd (not-empty e)
+claim-count (kind ∷ fs) e h = ap (λ (k : Bytes). ofKind (k ∷ fs)) e ∙ miscounted 2 kind fs _ h
+
+-- a line by its kind: with as many fields as the kind has, or with another count of them
+module _ (line : Bytes) where
+  pub line-atom : OfKind "A" line → length (fieldsOf line) ≡ 3
+      → lineOf line ≡ atomWritten (getD (fieldsOf line) 2 []) (numberOf (getD (fieldsOf line) 1 []))
+  unfolding lineOf
+  line-atom = atom-fields (fieldsOf line)
+
+  pub line-no-atom : OfKind "A" line → (length (fieldsOf line) ≡ 3 → ⊥) → lineOf line ≡ none
+  unfolding lineOf
+  line-no-atom = atom-count (fieldsOf line)
+
+  pub line-formula : OfKind "F" line → length (fieldsOf line) ≡ 5
+      → lineOf line
+      ≡ (λ n node. formulaLine n node) <$> numberOf (getD (fieldsOf line) 1 [])
+      <*> nodeOf (getD (fieldsOf line) 2 []) (getD (fieldsOf line) 3 []) (getD (fieldsOf line) 4 [])
+  unfolding lineOf
+  line-formula = formula-fields (fieldsOf line)
+
+  pub line-no-formula : OfKind "F" line → (length (fieldsOf line) ≡ 5 → ⊥) → lineOf line ≡ none
+  unfolding lineOf
+  line-no-formula = formula-count (fieldsOf line)
+
+  pub line-row : OfKind "N" line → length (fieldsOf line) ≡ 7
+      → lineOf line
+      ≡ rowWritten (numberOf (getD (fieldsOf line) 1 [])) (ruleOf (getD (fieldsOf line) 2 [])) (principalOf (getD (fieldsOf line) 3 []))
+      (listOf (getD (fieldsOf line) 4 [])) (listOf (getD (fieldsOf line) 5 [])) (listOf (getD (fieldsOf line) 6 []))
+  unfolding lineOf
+  line-row = row-fields (fieldsOf line)
+
+  pub line-no-row : OfKind "N" line → (length (fieldsOf line) ≡ 7 → ⊥) → lineOf line ≡ none
+  unfolding lineOf
+  line-no-row = row-count (fieldsOf line)
+
+  pub line-claim : OfKind "C" line → length (fieldsOf line) ≡ 3
+      → lineOf line ≡ claimWritten (listOf (getD (fieldsOf line) 1 [])) (listOf (getD (fieldsOf line) 2 []))
+  unfolding lineOf
+  line-claim = claim-fields (fieldsOf line)
+
+  pub line-no-claim : OfKind "C" line → (length (fieldsOf line) ≡ 3 → ⊥) → lineOf line ≡ none
+  unfolding lineOf
+  line-no-claim = claim-count (fieldsOf line)
+
+-- ---- what the readers' answers tell
+
+pub number-value : (o : Option ℕ) (n : ℕ) → numberAs o ≡ Number.Value n → o ≡ some n
+number-value none n e = let z : _≡_ {A = ℕ} 0 1 = cc in absurd (omega arith)
+number-value (some m) n e = cc
+
+pub number-bad : (o : Option ℕ) → numberAs o ≡ Number.Bad → o ≡ none
+number-bad none e = refl
+number-bad (some m) e = let z : _≡_ {A = ℕ} 0 1 = cc in absurd (omega arith)
+
+pub not-listed : (o : Option (List ℕ)) {listed : Listed} → listed ≡ listedAs o → listed .well ≡ false → o ≡ none
+not-listed none e h = refl
+not-listed (some xs) e h = absurd (true≢false (sym (ap (λ (a : Listed). a .well) e) ∙ h))
+
+pub is-listed : (o : Option (List ℕ)) {listed : Listed} → listed ≡ listedAs o → listed .well ≡ true
+    → (xs : List ℕ) × (o ≡ some xs) × (listed ≡ listedAs (some xs))
+is-listed none e h = absurd (false≢true (sym (ap (λ (a : Listed). a .well) e) ∙ h))
+is-listed (some xs) e h = (xs, refl, e)
+
+-- ---- the order of lines
+
+pub turn-same : {stage : ℕ} (s t : Stage) → stage ≡ rank s → outOfTurn stage (rank t) ≡ not (mayFollow s t)
+unfolding outOfTurn
+turn-same s t e = ap (λ (k : ℕ). outOfTurn k (rank t)) e
+
+pub order-same : {stage held : ℕ} (s t : Stage) (have n : ℕ) → stage ≡ rank s → held ≡ have → notNext stage (rank t) held n ≡ outOfOrder s t have n
+unfolding outOfTurn notNext
+order-same s t have n e k = ap₂ (λ (i j : ℕ). notNext i (rank t) j n) e k
+
+-- ---- the number that a line earns
+
+pub number-given : (k : ℕ) (o : Option ℕ) (p : Place) (f : File) → numbered k ≡ o → (k ≡ 0 → ⊥) → settled o p f ≡ refused k (p .line)
+number-given zero o p f e n = absurd (n refl)
+number-given (suc k) o p f e n = ap (λ (x : Option ℕ). settled x p f) (sym e)
+
+pub none-given : (k : ℕ) (o : Option ℕ) → numbered k ≡ o → k ≡ 0 → o ≡ none
+none-given zero o e z = sym e
+none-given (suc k) o e z = absurd (omega arith)
+
+-- ---- what holds in any tables
+
+pub same-lengths : (t : Contents) → SameLengths t t
+same-lengths t = record { names = refl; formulas = refl; words = refl; rows = refl; left = refl; right = refl }
+
+module _ {s : State} {r : Stepped} where
+  pub keeps-refused : {n line : ℕ} (t : Contents) → r ≡ refusedBy s n line → Keeps s r t t
+  keeps-refused t e = record { kept = λ h. (refl, ap (λ (x : Stepped). x .state) e); lengths = same-lengths t }
+
+  pub keeps-passed : {t u : Contents} → r .number ≡ 0 → SameLengths t u → Keeps s r t u
+  keeps-passed e same = record { kept = λ h. absurd (h e); lengths = same }
+
+-- ---- what a line comes to
+
+pub steps-refused : (text : Bytes) {o : Outcome File} {s : State} {r : Stepped} (t : Contents) (n line : ℕ) {l : ℕ} → o ≡ refused n l → l ≡ line
+    → r ≡ refusedBy s n line → Steps text o r t
+steps-refused text {r = r} t n line e at given =
+    subst (λ (x : Outcome File). Steps text x r t) (sym e) (ap (λ (x : Stepped). x .number) given, ap (λ (x : Stepped). x .line) given ∙ sym at)
+
+pub steps-next : {text : Bytes} {o : Outcome File} (r : Stepped) {t : Contents} (f : File) → o ≡ next f → r .number ≡ 0 → Stored text f (r .state) t
+    → Steps text o r t
+steps-next {text} r {t} f e zero-number stored = subst (λ (x : Outcome File). Steps text x r t) (sym e) (zero-number, stored)
+
+module _ {text : Bytes} {start : ℕ} {line : Bytes} {number : ℕ} {s : State} {r : Stepped} where
+  -- a line that every accepted beginning refuses with a number
+  pub line-refused : (n : ℕ) (t : Contents) → r ≡ refusedBy s n number
+      → ((f : File) (p : Place) (done : List Bytes) → Good done f → Stored text f s t → step f p line ≡ refused n (p .line))
+      → Lined text start line number s r t t
+  line-refused n t given by =
+      record {
+        steps = λ f p done good stored size placed at. steps-refused text t n number (by f p done good stored) at given;
+        keeps = keeps-refused t given;
+      }
+
+  -- a line that is badly written
+  pub line-bad : (t : Contents) → lineOf line ≡ none → r ≡ refusedBy s badLine number → Lined text start line number s r t t
+  line-bad t e given = line-refused badLine t given (λ f p done good stored. step-bad f p line e)
+
+-- ---- numbers written into a table
+
+-- no write changes the length
+pub written-length : (table : List ℕ) (at : ℕ) (numbers : List ℕ) → length (written table at numbers) ≡ length table
+unfolding written
+written-length table at numbers = by-test (leb (at + length numbers) (length table)) refl
+  where
+    by-test : (b : Bool) → leb (at + length numbers) (length table) ≡ b
+        → length (cond b (take at table ++ numbers ++ drop (at + length numbers) table) table) ≡ length table
+    by-test true e =
+        let room = leb-true (at + length numbers) (length table) e in
+        simp (length-append, length-take, length-drop) (omega arith)
+    by-test false e = refl
+
+-- a record put after those that a table holds
+module _ {A : Type 0} (f : A → List ℕ) (table : List ℕ) (xs : List A) (x : A) (at : ℕ) where
+  pub put-exactly : Exactly (joinAll f xs) table → length (joinAll f xs) ≡ at → at + length (f x) ≤ length table
+      → Exactly (joinAll f (xs ++ x ∷ [])) (written table at (f x))
+  put-exactly holds end room =
+      ap (λ (l : List ℕ). written l at (f x)) holds
+      ∙ put-encoded f (length table) xs x at end room
+      ∙ ap (λ (n : ℕ). padded n (joinAll f (xs ++ x ∷ []))) (sym (written-length table at (f x)))
+
+-- ---- what the tables hold
+
+module _ {text : Bytes} {f : File} {s : State} {t : Contents} (stored : Stored text f s t) where
+  pub nodes-held : HoldsNodes (f .body .nodes) (t .formulas)
+  nodes-held = record { records = begins-padded (stored .formulas) }
+
+  pub rows-held : HoldsRows (f .body .rows) (t .rows) (t .left) (t .right)
+  rows-held = record { records = begins-padded (stored .rows); left-pool = begins-padded (stored .left); right-pool = begins-padded (stored .right) }
+
+  pub ground : {done : List Bytes} → Good done f → Ground (f .body) (s .counts) (t .formulas) (t .words) (t .rows) (t .left) (t .right)
+  ground good =
+      record {
+        good = good .body;
+        counts = stored .counts;
+        nodes = record { records = begins-padded (stored .formulas) };
+        known = stored .known;
+        rows-held =
+            record { records = begins-padded (stored .rows); left-pool = begins-padded (stored .left); right-pool = begins-padded (stored .right) };
+      }
