@@ -4,7 +4,6 @@ ghost use Rattle.format.specs.Text.{fieldsOf};
 ghost use Rattle.text.specs.Parts.{Fielded};
 ghost use Rattle.lines.specs.Lined.{OfKind};
 ghost use Rattle.lines.specs.RowLines.{isNumber, isBad, RowInto, wellOf, otherIn, draftOf, recordOf, RowStored, RowSettled, RowLined};
-ghost use Rattle.rows.specs.Judging.{principalOf};
 use crate::numbers::narrow;
 use crate::numbers::narrow_place;
 use crate::state::ROWS;
@@ -12,6 +11,7 @@ use crate::state::State;
 use crate::state::Stepped;
 use crate::state::out_of_order;
 use rows::draft::Draft;
+use rows::draft::principal_number;
 use rows::row_number;
 use tables::counts::Counts;
 use tables::limits::MOST_ON_SIDE;
@@ -142,16 +142,6 @@ fn drafted(row: RowRead, first: u16, second: u16) -> Draft
         second,
         left,
         right,
-    }
-}
-
-fn principal_number(principal: Optional) -> u16
-    ensures { λ r. ⌜ r ≡ principalOf principal ⌝ }
-{
-    match principal {
-        Optional::Absent => ABSENT,
-        Optional::Value(i) => narrow(i),
-        Optional::Bad => ABSENT,
     }
 }
 

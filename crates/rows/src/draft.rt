@@ -1,4 +1,7 @@
 // A row as it was read, on its way to its number.
+ghost use mathlib.Core.Path.{_≡_};
+ghost use Rattle.rows.specs.Judging.{principalOf};
+use tables::records::ABSENT;
 use text::lists::Listed;
 use text::numbers::Optional;
 
@@ -12,4 +15,15 @@ pub struct Draft {
     pub second: u16,
     pub left: Listed,
     pub right: Listed,
+}
+
+// The principal formula as a number of a table, 65,535 if absent.
+pub fn principal_number(principal: Optional) -> u16
+    ensures { λ r. ⌜ r ≡ principalOf principal ⌝ }
+{
+    match principal {
+        Optional::Absent => ABSENT,
+        Optional::Value(i) => (i % 65536) as u16,
+        Optional::Bad => ABSENT,
+    }
 }

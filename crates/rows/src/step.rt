@@ -8,8 +8,9 @@ ghost use Rattle.format.specs.Passing.{RowInstance};
 ghost use Rattle.elk.specs.Rules.{entry};
 ghost use Rattle.rules.specs.RuleTable.{stepNumber};
 ghost use Rattle.sides.specs.Deciding.{Decides};
-ghost use Rattle.rows.specs.Judging.{principalOf, Judging, Premised};
+ghost use Rattle.rows.specs.Judging.{Judging, Premised};
 use crate::draft::Draft;
+use crate::draft::principal_number;
 use cut::cut_step;
 use literals::default_step;
 use literals::initial_step;
@@ -17,9 +18,7 @@ use rules::STEP;
 use rules::rule_number;
 use schema::schema_step;
 use tables::fetch;
-use tables::records::ABSENT;
 use tables::records::wide;
-use text::numbers::Optional;
 use unstable::unstable_step;
 
 // How the rules that are not of the table are judged; a lower number is the form that a rule of the table asks for.
@@ -30,17 +29,6 @@ const CUT: u8 = 11;
 const UNSTABLE: u8 = 12;
 
 const INITIAL: u8 = 13;
-
-// The principal formula as a number of a table, 65,535 if absent.
-fn principal_number(principal: Optional) -> u16
-    ensures { λ r. ⌜ r ≡ principalOf principal ⌝ }
-{
-    match principal {
-        Optional::Absent => ABSENT,
-        Optional::Value(i) => (i % 65536) as u16,
-        Optional::Bad => ABSENT,
-    }
-}
 
 // Whether a row of a rule that has premises is an instance.
 fn premised_step<'a>(

@@ -1,9 +1,9 @@
--- `rows::step::principal_number` meets its contract. Assumes nothing.
+-- `rows::draft::principal_number` meets its contract. Assumes nothing.
 use mathlib.Core.Path.{sym, ap}
 use borrow.Author.Needs.{needs}
 use Rattle.rows.specs.Judging.{principalOf}
-use Rattle.rows.proofs.step.principal_number.Statement.{statement}
-use Rattle.rows.proofs.step.principal_number.Tie as tie
+use Rattle.rows.proofs.draft.principal_number.Statement.{statement}
+use Rattle.rows.proofs.draft.principal_number.Tie as tie
 
 enum-told : tie.Need-enum-told
 enum-told c = search needs

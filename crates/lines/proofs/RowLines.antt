@@ -1,0 +1,383 @@
+-- N lines: their six fields together, what a row that is well written comes to, and the tables with one row more.
+use Prim.Native.Nat.{ℕ, zero, suc, _+_, _*_, _%_, _≤_, _<_, min}
+use native.Mathlib.Omega.{arith}
+use mathlib.Core.Path.{_≡_, refl, sym, ap, ap₂, subst, _∙_}
+use mathlib.Core.Bool.{Bool, true, false, not, cond, _&&_, true≢false, false≢true}
+use mathlib.Core.List.{List, [], _∷_, _++_, List·Memᴰ·head, List·Memᴰ·tail}
+use mathlib.Core.Option.{Option, none, some}
+use lib.Dec.{eqb}
+use lib.ListN.{length, getD, take, length-append}
+use borrow.Author.Tests.{ne-eqb, leb-false, ltb-false}
+use Rattle.equilibrium.specs.Meaning.{_∈_}
+use Rattle.elk.specs.Rules.{Rule, codeOf}
+use Rattle.format.specs.Text.{Bytes, fieldsOf, numberOf, principalOf, listOf}
+use Rattle.format.specs.File.{Row, in-rows, File, addRow}
+use Rattle.format.specs.Line.{rowLine, ruleOf, makeRow, lineOf}
+use Rattle.format.specs.Tables.{
+  absent,
+  orAbsent,
+  joinAll,
+  leftPool,
+  rightPool,
+  rowWidth,
+  rowRecord,
+  rowRecords,
+  mostRows,
+  mostEntries,
+  mostOnSide,
+  padded,
+}
+use Rattle.format.specs.Tests.{Test, _when_, first, outOfOrder, listed, unknownFormula, badSide, bodyTests, rowTests}
+use Rattle.format.specs.Judged.{Place, next, refused, settled, step, withRow}
+use Rattle.format.specs.Good.{Good}
+use Rattle.format.proofs.Booleans.{or-false, any-false}
+use Rattle.format.proofs.Tested.{passes, PassedRow, passed-row}
+use Rattle.format.proofs.GoodBodies.{good-held}
+use Rattle.format.proofs.Formulas.{known-earlier}
+use Rattle.format.proofs.Stepping.{first-applies, first-passes, step-row}
+use Rattle.rules.proofs.RuleNumbers.{code-below}
+use Rattle.text.specs.Numbers.{principalAs, NumberRead, PrincipalRead}
+use Rattle.text.specs.Lists.{listedAs, laidOver, ListedInto}
+use Rattle.text.specs.Words.{noRule, ruleCode}
+use Rattle.text.specs.declared.numbers.Number.{Number}
+use Rattle.text.specs.declared.numbers.Optional.{Optional}
+use Rattle.text.specs.declared.lists.Listed.{Listed}
+use Rattle.tables.specs.Counts.{countsOf, fullFor, withRow as countRow}
+use Rattle.tables.specs.Records.{written, rowNumbers}
+use Rattle.tables.specs.declared.counts.Counts.{Counts}
+use Rattle.tables.proofs.Counting.{counts-row}
+use Rattle.tables.proofs.Encoded.{rows-length, put-row-encoded}
+use Rattle.rows.specs.Early.{numbered}
+use Rattle.rows.specs.Judgement.{Narrow, Laid, Drafted, RowNumbered}
+use Rattle.rows.specs.Judging.{principalOf as principalNumber}
+use Rattle.rows.specs.declared.draft.Draft.{Draft}
+use Rattle.rows.proofs.Numbering.{numbered-some, numbered-none}
+use Rattle.lines.specs.State.{refusedBy, passedBy, notNext, Contents, SameLengths, Exactly, Stored, Keeps}
+use Rattle.lines.specs.Lined.{OfKind, Lined}
+use Rattle.lines.specs.RowLines.{
+  readAs,
+  rowRead,
+  RowInto,
+  isBad,
+  wellOf,
+  otherIn,
+  draftOf,
+  recordOf,
+  RowStored,
+  withRows,
+  RowLaid,
+}
+use Rattle.lines.specs.declared.state.State.{State}
+use Rattle.lines.specs.declared.state.Stepped.{Stepped}
+use Rattle.lines.specs.declared.row.RowRead.{RowRead}
+use Rattle.lines.proofs.LineLaws.{
+  rowWritten,
+  line-row,
+  line-no-row,
+  order-same,
+  keeps-refused,
+  keeps-passed,
+  steps-next,
+  line-refused,
+  line-bad,
+  written-length,
+  put-exactly,
+  ground,
+}
+
+-- ---- the fields
+
+pub row-into : {fields : List Bytes} {one two three four five six : Bytes} {premises left right premises′ left′ right′ : List ℕ}
+    {number : Number} {rule : ℕ} {principal : Optional} {a b d : Listed}
+    → one ≡ getD fields 1 [] → two ≡ getD fields 2 [] → three ≡ getD fields 3 [] → four ≡ getD fields 4 [] → five ≡ getD fields 5 [] → six ≡ getD fields 6 []
+    → NumberRead one number → rule ≡ ruleCode (ruleOf two) → PrincipalRead three principal
+    → ListedInto four premises premises′ a → ListedInto five left left′ b → ListedInto six right right′ d
+    → RowInto fields premises left right premises′ left′ right′
+    (record { number = number; rule = rule; principal = principal; premises = a; left = b; right = d })
+row-into e1 e2 e3 e4 e5 e6 n r p x y z =
+    record {
+      answer = cc (n .answer, p .answer, x .answer, y .answer, z .answer);
+      premises-stored = λ xs h. x .stored xs (ap listOf e4 ∙ h);
+      left-stored = λ xs h. y .stored xs (ap listOf e5 ∙ h);
+      right-stored = λ xs h. z .stored xs (ap listOf e6 ∙ h);
+    }
+
+-- the row that well written fields write
+pub record Written (number : Option ℕ) (rule : Option Rule) (principal : Option (Option ℕ)) (premises left right : Option (List ℕ)) : Type 0 where
+  pub own : ℕ
+  pub row : Row
+  pub line : rowWritten number rule principal premises left right ≡ some (rowLine own row)
+  pub read : readAs number rule principal premises left right ≡ rowRead own row
+  pub premises-listed : premises ≡ some (row .premises)
+  pub left-listed : left ≡ some (row .left)
+  pub right-listed : right ≡ some (row .right)
+
+not-bad : (o : Option ℕ) → isBad (principalAs (some o)) ≡ false
+not-bad none = refl
+not-bad (some i) = refl
+
+abbrev listsWell : Option (List ℕ) → Option (List ℕ) → Option (List ℕ) → Bool
+listsWell premises left right = listedAs premises .well && listedAs left .well && listedAs right .well
+
+module _ (n : ℕ) (s : Rule) (premises left right : Option (List ℕ)) where
+  no-rule : eqb (codeOf s) noRule ≡ false
+  no-rule = ne-eqb (codeOf s) noRule (λ e. omega (arith, code-below s))
+
+  well-without : wellOf (readAs (some n) (some s) none premises left right) ≡ false
+  well-without = ap (λ (t : Bool). not t && false && listedAs premises .well && listedAs left .well && listedAs right .well) no-rule
+
+  well-with : (o : Option ℕ) → wellOf (readAs (some n) (some s) (some o) premises left right) ≡ listsWell premises left right
+  well-with o = ap₂ (λ (t u : Bool). not t && not u && listedAs premises .well && listedAs left .well && listedAs right .well) no-rule (not-bad o)
+
+module _ (n : ℕ) (s : Rule) (o : Option ℕ) where
+  lists-written : (premises left right : Option (List ℕ)) → listsWell premises left right ≡ true → Written (some n) (some s) (some o) premises left right
+  lists-written none left right h = absurd (false≢true h)
+  lists-written (some ps) none right h = absurd (false≢true h)
+  lists-written (some ps) (some ls) none h = absurd (false≢true h)
+  lists-written (some ps) (some ls) (some rs) h =
+      record { own = n; row = makeRow s o ps ls rs; line = refl; read = refl; premises-listed = refl; left-listed = refl; right-listed = refl }
+
+  lists-bad : (premises left right : Option (List ℕ)) → listsWell premises left right ≡ false
+      → rowWritten (some n) (some s) (some o) premises left right ≡ none
+  lists-bad none left right h = refl
+  lists-bad (some ps) none right h = refl
+  lists-bad (some ps) (some ls) none h = refl
+  lists-bad (some ps) (some ls) (some rs) h = absurd (true≢false h)
+
+well-written : (number : Option ℕ) (rule : Option Rule) (principal : Option (Option ℕ)) (premises left right : Option (List ℕ))
+    → wellOf (readAs number rule principal premises left right) ≡ true → Written number rule principal premises left right
+well-written none rule principal premises left right h = absurd (false≢true h)
+well-written (some n) none principal premises left right h = absurd (false≢true h)
+well-written (some n) (some s) none premises left right h = absurd (false≢true (sym (well-without n s premises left right) ∙ h))
+well-written (some n) (some s) (some o) premises left right h = lists-written n s o premises left right (sym (well-with n s premises left right o) ∙ h)
+
+badly-written : (number : Option ℕ) (rule : Option Rule) (principal : Option (Option ℕ)) (premises left right : Option (List ℕ))
+    → wellOf (readAs number rule principal premises left right) ≡ false → rowWritten number rule principal premises left right ≡ none
+badly-written none rule principal premises left right h = refl
+badly-written (some n) none principal premises left right h = refl
+badly-written (some n) (some s) none premises left right h = refl
+badly-written (some n) (some s) (some o) premises left right h = lists-bad n s o premises left right (sym (well-with n s premises left right o) ∙ h)
+
+-- ---- lists as they were stored
+
+-- a list that is laid over a table long enough is its first part, where its numbers fit
+laid-part : (xs was : List ℕ) → Narrow xs → length xs ≤ length was → take (length xs) (laidOver xs was) ≡ xs
+unfolding laidOver
+laid-part [] was narrow room = refl
+laid-part (x ∷ xs) [] narrow room = absurd (omega arith)
+laid-part (x ∷ xs) (o ∷ was) narrow room =
+    let small : min x 65535 ≡ x = omega (arith, narrow x (List·Memᴰ·head refl)) in
+    ap₂ (λ (y : ℕ) (ys : List ℕ). y ∷ ys) small (laid-part xs was (λ y m. narrow y (List·Memᴰ·tail m)) (omega arith))
+
+-- a number there, where it lies inside
+laid-at : (xs was : List ℕ) (i : ℕ) → Narrow xs → i < length was → getD (laidOver xs was) i 0 ≡ getD xs i (getD was i 0)
+unfolding laidOver
+laid-at [] was i narrow room = refl
+laid-at (x ∷ xs) [] i narrow room = absurd (omega arith)
+laid-at (x ∷ xs) (o ∷ was) zero narrow room = omega (arith, narrow x (List·Memᴰ·head refl))
+laid-at (x ∷ xs) (o ∷ was) (suc i) narrow room = laid-at xs was i (λ y m. narrow y (List·Memᴰ·tail m)) (omega arith)
+
+-- a list that was read into a table with room for a side
+pub list-laid : {xs was table : List ℕ} {listed : Listed} → listed ≡ listedAs (some xs) → table ≡ laidOver xs was → mostOnSide ≤ length was → Laid xs listed table
+list-laid {xs} {was} answer stored room =
+    record { answer = answer; front = λ short narrow. ap (take (length xs)) stored ∙ laid-part xs was narrow (omega arith) }
+
+-- ---- a line whose kind is N
+
+module _ (line : Bytes) (kind : OfKind "N" line) (counted : length (fieldsOf line) ≡ 7) {above l r above′ l′ r′ : List ℕ} {row : RowRead}
+    (i : RowInto (fieldsOf line) above l r above′ l′ r′ row) where
+  pub row-unread : wellOf row ≡ false → lineOf line ≡ none
+  row-unread h = line-row line kind counted ∙ badly-written _ _ _ _ _ _ (ap wellOf (sym (i .answer)) ∙ h)
+
+  pub row-found : wellOf row ≡ true → above ≡ absent ∷ absent ∷ [] → mostOnSide ≤ length l → mostOnSide ≤ length r
+      → (n : ℕ) × (q : Row) × (lineOf line ≡ some (rowLine n q)) × RowLaid n q row above′ l′ r′
+  row-found h lent left-room right-room =
+      let w = well-written _ _ _ _ _ _ (ap wellOf (sym (i .answer)) ∙ h) in
+      let read : row ≡ rowRead (w .own) (w .row) = i .answer ∙ w .read in
+      let laid : RowLaid (w .own) (w .row) row above′ l′ r′ =
+      record {
+        read = read;
+        premises = i .premises-stored (w .row .premises) (w .premises-listed) ∙ ap (laidOver (w .row .premises)) lent;
+        left-laid = list-laid (ap (λ (z : RowRead). z .left) read) (i .left-stored (w .row .left) (w .left-listed)) left-room;
+        right-laid = list-laid (ap (λ (z : RowRead). z .right) read) (i .right-stored (w .row .right) (w .right-listed)) right-room;
+      } in
+      (w .own, w .row, line-row line kind counted ∙ w .line, laid)
+
+-- ---- the draft of a row
+
+small-mod : (x : ℕ) → x ≤ absent → x % 65536 ≡ x
+small-mod x h = omega arith
+
+pub row-drafted : {n : ℕ} {q : Row} {row : RowRead} {above l r : List ℕ} → RowLaid n q row above l r → {d : Draft} {one two : ℕ}
+    → one ≡ getD above 0 0 → two ≡ getD above 1 0 → d ≡ draftOf row one two → Drafted q d l r
+row-drafted {n} {q} {row} {above} {l} {r} h {d} {one} {two} is-one is-two e =
+    subst (λ (z : Draft). Drafted q z l r) (sym e) (
+    record {
+      rule = ap (λ (z : RowRead). z .rule % 65536) (h .read) ∙ small-mod (codeOf (q .rule)) (omega (arith, code-below (q .rule)));
+      principal = ap (λ (z : RowRead). z .principal) (h .read);
+      premises = ap (λ (z : RowRead). z .premises) (h .read);
+      first-premise = λ narrow. is-one ∙ ap (λ (z : List ℕ). getD z 0 0) (h .premises) ∙ laid-at (q .premises) (absent ∷ absent ∷ []) 0 narrow (omega arith);
+      second-premise = λ narrow. is-two ∙ ap (λ (z : List ℕ). getD z 1 0) (h .premises) ∙ laid-at (q .premises) (absent ∷ absent ∷ []) 1 narrow (omega arith);
+      left-laid = h .left-laid;
+      right-laid = h .right-laid;
+    })
+
+-- ---- a row that is well written
+
+module _ {text : Bytes} (line : Bytes) {start number n : ℕ} {q : Row} {row : RowRead} {s : State} {above l r : List ℕ}
+    (well : lineOf line ≡ some (rowLine n q)) (h : RowLaid n q row above l r) where
+  -- number 4
+  order-asked : {f : File} {t : Contents} → Stored text f s t → otherIn (row .number) s ≡ outOfOrder (f .stage) in-rows (length (f .body .rows)) n
+  order-asked {f} stored =
+      ap (λ (z : RowRead). otherIn (z .number) s) (h .read)
+      ∙ order-same (f .stage) in-rows (length (f .body .rows)) n (stored .stage) (ap (λ (c : Counts). c .rows) (stored .counts))
+
+  pub row-misplaced : {stepped : Stepped} (t : Contents) → otherIn (row .number) s ≡ true → stepped ≡ refusedBy s 4 number → Lined text start line number s stepped t t
+  row-misplaced t other given =
+      line-refused 4 t given (λ f p done good stored.
+      step-row f p line n q well
+      ∙ ap (λ (o : Option ℕ). settled o p (withRow f q)) (first-applies (4 when outOfOrder (f .stage) in-rows (length (f .body .rows)) n) (bodyTests (f .body) q) (sym (order-asked stored) ∙ other)))
+
+  module _ (next-one : otherIn (row .number) s ≡ false) {d : Draft} (drafted : Drafted q d l r) {formulas words rows left right : List ℕ} {k : ℕ}
+      (numbers : RowNumbered d (s .counts) l r formulas words rows left right k) where
+    -- the number that the row earns
+    row-earns : {f : File} (t : Contents) {done : List Bytes} → Good done f → Stored text f s (withRows t formulas words rows left right)
+        → numbered k ≡ first (rowTests f n q)
+    row-earns {f} t good stored =
+        numbers .given (f .body) q (ground stored good) drafted
+        ∙ sym (first-passes (4 when outOfOrder (f .stage) in-rows (length (f .body .rows)) n) (bodyTests (f .body) q) (sym (order-asked stored) ∙ next-one))
+
+    pub row-refused : {stepped : Stepped} (t : Contents) → (k ≡ 0 → ⊥) → stepped ≡ refusedBy s k number
+        → Lined text start line number s stepped (withRows t formulas words rows left right) (withRows t formulas words rows left right)
+    row-refused t some-number given =
+        line-refused k (withRows t formulas words rows left right) given (λ f p done good stored.
+        step-row f p line n q well
+        ∙ ap (λ (o : Option ℕ). settled o p (withRow f q)) (sym (row-earns t good stored) ∙ numbered-some k some-number))
+
+    -- a row that passes
+    module _ (passed : k ≡ 0) {rows′ left′ right′ : List ℕ} (w : RowStored d (s .counts) l r rows left right rows′ left′ right′)
+        {f : File} (p : Place) (t : Contents) {done : List Bytes} (good : Good done f) (stored : Stored text f s (withRows t formulas words rows left right)) where
+      steps : step f p line ≡ next (withRow f q)
+      steps =
+          step-row f p line n q well
+          ∙ ap (λ (o : Option ℕ). settled o p (withRow f q)) (sym (row-earns t good stored) ∙ numbered-none k .1 passed)
+
+      tests : first (bodyTests (f .body) q) ≡ none
+      tests = sym (numbers .given (f .body) q (ground stored good) drafted) ∙ numbered-none k .1 passed
+
+      fits : PassedRow (f .body) q
+      fits = passed-row (f .body) q tests
+
+      short : (side : List ℕ) {listed : Listed} {table : List ℕ} → Laid side listed table → badSide side ≡ false → unknownFormula (f .body) side ≡ false
+          → take (listed .count) table ≡ side
+      short side {listed} {table} laid good-side known =
+          ap (λ (z : Listed). take (z .count) table) (laid .answer)
+          ∙ laid .front (ltb-false mostOnSide (length side) (or-false _ _ good-side .1)) (λ x m. omega (arith, known-earlier (f .body) side known x m, good-held (good .body) .few-nodes))
+
+      left-is : take (d .left .count) l ≡ q .left
+      left-is = short (q .left) (drafted .left-laid) (fits .left-good) (fits .left-known)
+
+      right-is : take (d .right .count) r ≡ q .right
+      right-is = short (q .right) (drafted .right-laid) (fits .right-good) (fits .right-known)
+
+      left-count : d .left .count ≡ length (q .left)
+      left-count = ap (λ (z : Listed). z .count) (drafted .left-laid .answer)
+
+      right-count : d .right .count ≡ length (q .right)
+      right-count = ap (λ (z : Listed). z .count) (drafted .right-laid .answer)
+
+      rows-count : s .counts .rows ≡ length (f .body .rows)
+      rows-count = ap (λ (c : Counts). c .rows) (stored .counts)
+
+      left-held : s .counts .left ≡ length (leftPool (f .body .rows))
+      left-held = ap (λ (c : Counts). c .left) (stored .counts)
+
+      right-held : s .counts .right ≡ length (rightPool (f .body .rows))
+      right-held = ap (λ (c : Counts). c .right) (stored .counts)
+
+      principal-same : (o : Option ℕ) → unknownFormula (f .body) (listed o) ≡ false → principalNumber (principalAs (some o)) ≡ orAbsent o
+      principal-same none e = refl
+      principal-same (some i) e = small-mod i (omega (arith, known-earlier (f .body) (i ∷ []) e i (List·Memᴰ·head refl), good-held (good .body) .few-nodes))
+
+      narrow : Narrow (q .premises)
+      narrow x m = omega (arith, leb-false (length (f .body .rows)) x (any-false _ (q .premises) (fits .premises-earlier) x m), fits .rows-room)
+
+      numbers-same : rowNumbers (recordOf d (s .counts)) ≡ rowRecord (f .body .rows) q
+      numbers-same =
+          let held = good-held (good .body) in
+          let a1 : d .rule ≡ codeOf (q .rule) = drafted .rule in
+          let a2 : principalNumber (d .principal) ≡ orAbsent (q .principal) = ap principalNumber (drafted .principal) ∙ principal-same (q .principal) (fits .principal-known) in
+          let a3 : d .first ≡ getD (q .premises) 0 absent = drafted .first-premise narrow in
+          let a4 : d .second ≡ getD (q .premises) 1 absent = drafted .second-premise narrow in
+          let a5 : s .counts .left % 65536 ≡ length (leftPool (f .body .rows)) = small-mod (s .counts .left) (omega (arith, left-held, held .few-left)) ∙ left-held in
+          let a6 : d .left .count % 65536 ≡ length (q .left) = small-mod (d .left .count) (omega (arith, left-count, fits .left-room)) ∙ left-count in
+          let a7 : s .counts .right % 65536 ≡ length (rightPool (f .body .rows)) = small-mod (s .counts .right) (omega (arith, right-held, held .few-right)) ∙ right-held in
+          let a8 : d .right .count % 65536 ≡ length (q .right) = small-mod (d .right .count) (omega (arith, right-count, fits .right-room)) ∙ right-count in
+          cc (a1, a2, a3, a4, a5, a6, a7, a8)
+
+      row-put : Exactly (rowRecords (f .body .rows ++ q ∷ [])) rows′
+      row-put =
+          let put : rows′ ≡ written rows (rowWidth * length (f .body .rows)) (rowRecord (f .body .rows) q) =
+          w .row-written ∙ ap₂ (λ (m : ℕ) (numbers : List ℕ). written rows (rowWidth * m) numbers) rows-count numbers-same in
+          put
+          ∙ ap (λ (table : List ℕ). written table (rowWidth * length (f .body .rows)) (rowRecord (f .body .rows) q)) (stored .rows)
+          ∙ put-row-encoded (length rows) (f .body .rows) q (omega (arith, fits .rows-room, stored .full .rows))
+          ∙ ap (λ (m : ℕ). padded m (rowRecords (f .body .rows ++ q ∷ []))) (sym (ap length put ∙ written-length rows _ _))
+
+      left-put : Exactly (leftPool (f .body .rows ++ q ∷ [])) left′
+      left-put =
+          subst (Exactly (leftPool (f .body .rows ++ q ∷ []))) (sym (w .left-written ∙ ap₂ (written left) left-held left-is)) (
+          put-exactly (λ (z : Row). z .left) left (f .body .rows) q (length (leftPool (f .body .rows))) (stored .left) refl (omega (arith, fits .left-room, stored .full .left)))
+
+      right-put : Exactly (rightPool (f .body .rows ++ q ∷ [])) right′
+      right-put =
+          subst (Exactly (rightPool (f .body .rows ++ q ∷ []))) (sym (w .right-written ∙ ap₂ (written right) right-held right-is)) (
+          put-exactly (λ (z : Row). z .right) right (f .body .rows) q (length (rightPool (f .body .rows))) (stored .right) refl (omega (arith, fits .right-room, stored .full .right)))
+
+      room : fullFor (countsOf (f .body)) (length (q .left)) (length (q .right)) ≡ false
+      unfolding fullFor
+      room = passes 5 (bodyTests (f .body) q) tests
+
+      counts-same : countRow (s .counts) (d .left .count) (d .right .count) ≡ countsOf (addRow (f .body) q)
+      counts-same =
+          ap (λ (c : Counts). countRow c (d .left .count) (d .right .count)) (stored .counts)
+          ∙ ap₂ (countRow (countsOf (f .body))) left-count right-count
+          ∙ counts-row (f .body) q room
+
+      pub row-stored : {counts : Counts} → counts ≡ countRow (s .counts) (d .left .count) (d .right .count)
+          → Stored text (withRow f q) (passedBy s counts 2 number .state) (withRows t formulas words rows′ left′ right′)
+      row-stored e =
+          record {
+            full =
+                record {
+                  names = stored .full .names;
+                  formulas = stored .full .formulas;
+                  words = stored .full .words;
+                  rows = omega (arith, stored .full .rows, ap length (w .row-written), written-length rows (rowWidth * s .counts .rows) (rowNumbers (recordOf d (s .counts))));
+                  left = omega (arith, stored .full .left, ap length (w .left-written), written-length left (s .counts .left) (take (d .left .count) l));
+                  right = omega (arith, stored .full .right, ap length (w .right-written), written-length right (s .counts .right) (take (d .right .count) r));
+                };
+            counts = e ∙ counts-same;
+            stage = refl;
+            claim = stored .claim;
+            names-in = stored .names-in;
+            names = stored .names;
+            formulas = stored .formulas;
+            known = record { atoms = stored .known .atoms; index = stored .known .index };
+            rows = row-put;
+            left = left-put;
+            right = right-put;
+          }
+
+-- what is written of a row changes no length
+pub row-lengths : {d : Draft} {c : Counts} {l r rows left right rows′ left′ right′ : List ℕ} (t : Contents) (formulas words : List ℕ)
+    → RowStored d c l r rows left right rows′ left′ right′ → SameLengths (withRows t formulas words rows left right) (withRows t formulas words rows′ left′ right′)
+row-lengths {d} {c} {l} {r} {rows} {left} {right} t formulas words w =
+    record {
+      names = refl;
+      formulas = refl;
+      words = refl;
+      rows = ap length (w .row-written) ∙ written-length rows _ _;
+      left = ap length (w .left-written) ∙ written-length left _ _;
+      right = ap length (w .right-written) ∙ written-length right _ _;
+    }

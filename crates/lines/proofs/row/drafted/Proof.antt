@@ -1,0 +1,13 @@
+-- `lines::row::drafted` meets its contract. Assumes nothing.
+use borrow.Author.Needs.{needs}
+use Rattle.lines.proofs.row.drafted.Statement.{statement}
+use Rattle.lines.proofs.row.drafted.Tie as tie
+
+narrow-requires : tie.Need-narrow-requires
+narrow-requires c κs = search needs
+
+returns : tie.Need-returns
+returns c = cc (c .narrow .ensures)
+
+pub drafted-spec : {M : Type 1} → statement M
+drafted-spec = tie.close (tie.spec narrow-requires returns)
