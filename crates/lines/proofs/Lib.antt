@@ -1,2 +1,3 @@
 -- Laws of lines: those of any kind, and those of each kind.
 pub mod LineLaws
+pub mod FormulaLines
