@@ -1,3 +1,6 @@
 -- Laws of lines: those of any kind, and those of each kind.
 pub mod LineLaws
+mod AtomLines
+mod FormulaLines
 mod RowLines
+mod ClaimLines

@@ -52,7 +52,7 @@ use Rattle.rows.specs.Judgement.{Narrow, Laid, Drafted, RowNumbered}
 use Rattle.rows.specs.Judging.{principalOf as principalNumber}
 use Rattle.rows.specs.declared.draft.Draft.{Draft}
 use Rattle.rows.proofs.Numbering.{numbered-some, numbered-none}
-use Rattle.lines.specs.State.{refusedBy, passedBy, notNext, Contents, SameLengths, Exactly, Stored, Keeps}
+use Rattle.lines.specs.State.{refusedBy, passedBy, Contents, SameLengths, Exactly, Stored, Steps, Keeps}
 use Rattle.lines.specs.Lined.{OfKind, Lined}
 use Rattle.lines.specs.RowLines.{
   readAs,
@@ -381,3 +381,43 @@ row-lengths {d} {c} {l} {r} {rows} {left} {right} t formulas words w =
       left = ap length (w .left-written) ∙ written-length left _ _;
       right = ap length (w .right-written) ∙ written-length right _ _;
     }
+
+-- ---- what settling a row comes to
+
+module _ (row : RowRead) (number : ℕ) (above l r formulas words : List ℕ) (s : State) (stepped : Stepped) (rows left right : List ℕ) where
+  pub settled-misplaced : otherIn (row .number) s ≡ true → stepped ≡ refusedBy s 4 number → RowSettled row number above l r formulas words s stepped rows left right rows left right
+  settled-misplaced other given =
+      record {
+        lined = λ text line start n q t well h. row-misplaced line well h (withRows t formulas words rows left right) other given;
+        keeps = λ t. keeps-refused (withRows t formulas words rows left right) given;
+      }
+
+  module _ (next-one : otherIn (row .number) s ≡ false) (one two : ℕ) (is-one : one ≡ getD above 0 0) (is-two : two ≡ getD above 1 0)
+      (d : Draft) (is-draft : d ≡ draftOf row one two) (k : ℕ) (numbers : RowNumbered d (s .counts) l r formulas words rows left right k) where
+    pub settled-refused : (k ≡ 0 → ⊥) → stepped ≡ refusedBy s k number → RowSettled row number above l r formulas words s stepped rows left right rows left right
+    settled-refused some-number given =
+        record {
+          lined = λ text line start n q t well h. row-refused line well h next-one (row-drafted h is-one is-two is-draft) numbers t some-number given;
+          keeps = λ t. keeps-refused (withRows t formulas words rows left right) given;
+        }
+
+    pub settled-stored : k ≡ 0 → (rows′ left′ right′ : List ℕ) → RowStored d (s .counts) l r rows left right rows′ left′ right′
+        → (counts : Counts) → counts ≡ countRow (s .counts) (d .left .count) (d .right .count) → stepped ≡ passedBy s counts 2 number
+        → RowSettled row number above l r formulas words s stepped rows left right rows′ left′ right′
+    settled-stored passed rows′ left′ right′ w counts is-counts given =
+        record {
+          lined = λ text line start n q t well h. record { steps = steps-stored text line start n q t well h; keeps = keeps t };
+          keeps = keeps;
+        }
+      where
+        keeps : (t : Contents) → Keeps s stepped (withRows t formulas words rows left right) (withRows t formulas words rows′ left′ right′)
+        keeps t = keeps-passed (ap (λ (z : Stepped). z .number) given) (row-lengths t formulas words w)
+
+        steps-stored : (text line : Bytes) (start n : ℕ) (q : Row) (t : Contents) → lineOf line ≡ some (rowLine n q) → RowLaid n q row above l r
+            → (f : File) (p : Place) (done : List Bytes) → Good done f → Stored text f s (withRows t formulas words rows left right) → length text ≤ mostBytes
+            → p .start ≡ start → p .line ≡ number → Steps text (step f p line) stepped (withRows t formulas words rows′ left′ right′)
+        steps-stored text line start n q t well h f p done good stored size placed at =
+            let drafted = row-drafted h is-one is-two is-draft in
+            steps-next stepped (withRow f q) (steps line well h next-one drafted numbers passed w p t good stored) (ap (λ (z : Stepped). z .number) given) (
+            subst (λ (z : Stepped). Stored text (withRow f q) (z .state) (withRows t formulas words rows′ left′ right′)) (sym given) (
+            row-stored line well h next-one drafted numbers passed w p t good stored is-counts))

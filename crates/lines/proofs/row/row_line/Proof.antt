@@ -1,76 +1,82 @@
+-- `lines::row::row_line` meets its contract. Assumes nothing.
+use mathlib.Core.Path.{refl, sym, _∙_}
+use borrow.Author.Tests.{not-true, not-false}
+use lib.Dec.{lit≤}
+use Rattle.lines.specs.RowLines.{withRows}
+use Rattle.lines.proofs.LineLaws.{line-no-row, line-bad}
+use Rattle.lines.proofs.RowLines.{row-unread, row-found}
 use borrow.Author.Needs.{needs}
 use Rattle.lines.proofs.row.row_line.Statement.{statement}
 use Rattle.lines.proofs.row.row_line.Tie as tie
-use Rattle.lines.proofs.row.row_line.Reads as reads
-use Rattle.lines.proofs.row.row_line.Lts as lts
-use Rattle.lines.proofs.row.is_well.Reads as is-well-reads
-use Rattle.lines.proofs.row.read_row.Reads as read-row-reads
-use Rattle.lines.proofs.row.settle_row.Reads as settle-row-reads
-use Rattle.lines.proofs.state.State.refused.Reads as refused-reads
 
--- src/row.rt:258:9
 refused-requires : tie.Need-refused-requires
 refused-requires c κs = search needs
 
--- src/row.rt:258:9
 returns : tie.Need-returns
-returns c = ?
+returns c text start t =
+    let own = c .before .before .before .before .before .before .before .before .before in
+    line-bad (withRows t _ _ _ _ _) (line-no-row (own .args .line .now) (own .pre .1) (λ h. c .before .if1 .taken (own .pre .0 .counted ∙ h))) (c .refused .ensures)
 
--- src/row.rt:263:38
 slice-aggregate-read-row : tie.Need-slice-aggregate-read-row
 slice-aggregate-read-row c = search needs
 
--- src/row.rt:263:50
 slice-aggregate-read-row-2 : tie.Need-slice-aggregate-read-row-2
 slice-aggregate-read-row-2 c = search needs
 
--- src/row.rt:263:58
 slice-aggregate-read-row-3 : tie.Need-slice-aggregate-read-row-3
 slice-aggregate-read-row-3 c = search needs
 
--- src/row.rt:263:9
 read-row-requires : tie.Need-read-row-requires
 read-row-requires c κs = search needs
 
--- src/row.rt:264:9
 is-well-requires : tie.Need-is-well-requires
 is-well-requires c κs = search needs
 
--- src/row.rt:265:9
 refused-requires-2 : tie.Need-refused-requires-2
 refused-requires-2 c κs = search needs
 
--- src/row.rt:265:9
 returns-2 : tie.Need-returns-2
-returns-2 c = ?
+returns-2 c text start t =
+    let told = c .before .before in
+    let read = told .before .before .before .before in
+    let counted = read .before .before .before .before in
+    let own = counted .before .before .before .before .before .before .before .before in
+    line-bad (withRows t _ _ _ _ _)
+    (row-unread (own .args .line .now) (own .pre .1) (sym (own .pre .0 .counted) ∙ counted .if1 .left) (read .read-row .ensures)
+    (sym (told .is-well .ensures) ∙ not-true (told .is-well .result) (c .before .if2 .taken)))
+    (c .refused2 .ensures)
 
--- src/row.rt:271:9
 slice-aggregate-settle-row : tie.Need-slice-aggregate-settle-row
 slice-aggregate-settle-row c = search needs
 
--- src/row.rt:272:9
 slice-aggregate-settle-row-2 : tie.Need-slice-aggregate-settle-row-2
 slice-aggregate-settle-row-2 c = search needs
 
--- src/row.rt:267:5
 settle-row-requires : tie.Need-settle-row-requires
 settle-row-requires c κs = search needs
 
--- src/row.rt:242:1
 same-length : tie.Need-same-length
 same-length c = search needs
 
--- src/row.rt:242:1
 same-length-2 : tie.Need-same-length-2
 same-length-2 c = search needs
 
--- src/row.rt:242:1
 same-length-3 : tie.Need-same-length-3
 same-length-3 c = search needs
 
--- src/row.rt:242:1
 returns-3 : tie.Need-returns-3
-returns-3 c = ?
+returns-3 c text start t =
+    let settled = c .before .before .before .before .before .before in
+    let well = settled .before .before .before .before .before .before .before in
+    let told = well .before in
+    let read = told .before .before .before .before in
+    let counted = read .before .before .before .before in
+    let own = counted .before .before .before .before .before .before .before .before in
+    let line = own .args .line .now in
+    let found =
+          row-found line (own .pre .1) (sym (own .pre .0 .counted) ∙ counted .if1 .left) (read .read-row .ensures)
+          (sym (told .is-well .ensures) ∙ not-false (told .is-well .result) (well .if2 .left)) refl (lit≤ tt) (lit≤ tt) in
+    settled .settle-row .ensures .lined text line start (found .0) (found .1) t (found .2) (found .3)
 
 pub row-line-spec : {M : Type 1} → statement M
 row-line-spec =

@@ -1,91 +1,77 @@
+-- `lines::row::settle_row` meets its contract. Assumes nothing.
+use mathlib.Core.Path.{refl, sym, _∙_}
+use Rattle.lines.proofs.RowLines.{settled-misplaced, settled-refused, settled-stored}
 use borrow.Author.Needs.{needs}
 use Rattle.lines.proofs.row.settle_row.Statement.{statement}
 use Rattle.lines.proofs.row.settle_row.Tie as tie
-use Rattle.lines.proofs.row.settle_row.Reads as reads
-use Rattle.lines.proofs.row.settle_row.Lts as lts
-use Rattle.lines.proofs.row.drafted.Reads as drafted-reads
-use Rattle.lines.proofs.row.is_other.Reads as is-other-reads
-use Rattle.lines.proofs.row.store_row.Reads as store-row-reads
-use Rattle.lines.proofs.state.State.passed.Reads as passed-reads
-use Rattle.lines.proofs.state.State.refused.Reads as refused-reads
-use Rattle.rows.proofs.row_number.Reads as row-number-reads
-use Rattle.tables.proofs.counts.Counts.with_row.Reads as with-row-reads
 
--- src/row.rt:216:8
 is-other-requires : tie.Need-is-other-requires
 is-other-requires c κs = search needs
 
--- src/row.rt:217:9
 refused-requires : tie.Need-refused-requires
 refused-requires c κs = search needs
 
--- src/row.rt:217:9
 returns : tie.Need-returns
-returns c = ?
+returns c = settled-misplaced _ _ _ _ _ _ _ _ _ _ _ _ (sym (c .before .before .is-other .ensures) ∙ c .before .if1 .taken) (c .refused .ensures)
 
--- src/row.rt:220:30
 element-copy-out-drafted : tie.Need-element-copy-out-drafted
 element-copy-out-drafted c = search needs
 
--- src/row.rt:220:40
 element-copy-out-drafted-2 : tie.Need-element-copy-out-drafted-2
 element-copy-out-drafted-2 c = search needs
 
--- src/row.rt:220:9
 drafted-requires : tie.Need-drafted-requires
 drafted-requires c κs = search needs
 
--- src/row.rt:221:9
 row-number-requires : tie.Need-row-number-requires
 row-number-requires c κs = search needs
 
--- src/row.rt:233:9
 refused-requires-2 : tie.Need-refused-requires-2
 refused-requires-2 c κs = search needs
 
--- src/row.rt:233:9
 same-length : tie.Need-same-length
 same-length c = search needs
 
--- src/row.rt:233:9
 same-length-2 : tie.Need-same-length-2
 same-length-2 c = search needs
 
--- src/row.rt:233:9
 same-length-3 : tie.Need-same-length-3
 same-length-3 c = search needs
 
--- src/row.rt:233:9
 returns-2 : tie.Need-returns-2
-returns-2 c = ?
+returns-2 c =
+    let numbered = c .before .before in
+    let drafted = numbered .before .before .before .before in
+    let ordered = drafted .before .before .before .before in
+    settled-refused _ _ _ _ _ _ _ _ _ _ _ _ (sym (ordered .before .is-other .ensures) ∙ ordered .if1 .left) _ _ refl refl _ (drafted .drafted .ensures) _
+    (numbered .row-number .ensures) (c .before .if2 .taken) (c .refused2 .ensures)
 
--- src/row.rt:235:5
 store-row-requires : tie.Need-store-row-requires
 store-row-requires c κs = search needs
 
--- src/row.rt:238:18
 with-row-requires : tie.Need-with-row-requires
 with-row-requires c κs = search needs
 
--- src/row.rt:238:5
 passed-requires : tie.Need-passed-requires
 passed-requires c κs = search needs
 
--- src/row.rt:198:1
 same-length-4 : tie.Need-same-length-4
 same-length-4 c = search needs
 
--- src/row.rt:198:1
 same-length-5 : tie.Need-same-length-5
 same-length-5 c = search needs
 
--- src/row.rt:198:1
 same-length-6 : tie.Need-same-length-6
 same-length-6 c = search needs
 
--- src/row.rt:198:1
 returns-3 : tie.Need-returns-3
-returns-3 c = ?
+returns-3 c =
+    let stored = c .before .before .before .before .before .before .before .before .before .before in
+    let numbered = stored .before .before .before .before .before in
+    let drafted = numbered .before .before .before .before in
+    let ordered = drafted .before .before .before .before in
+    settled-stored _ _ _ _ _ _ _ _ _ _ _ _ (sym (ordered .before .is-other .ensures) ∙ ordered .if1 .left) _ _ refl refl _ (drafted .drafted .ensures) _
+    (numbered .row-number .ensures) (stored .before .before .before .before .if2 .left) _ _ _ (stored .store-row .ensures) _ (c .before .with-row .ensures) (c .passed .ensures)
 
 pub settle-row-spec : {M : Type 1} → statement M
 settle-row-spec =

@@ -1,0 +1,566 @@
+-- F lines: how their fields are read, which number a formula earns, and the file with one formula more in its tables.
+use Prim.Native.Nat.{ℕ, zero, suc, _+_, _*_, _%_, _≤_, _<_}
+use native.Mathlib.Omega.{arith}
+use mathlib.Core.Path.{_≡_, refl, sym, ap, ap₂, subst, _∙_}
+use mathlib.Core.Bool.{Bool, true, false, cond, not, _&&_, _||_, or-false, or-true, true≢false}
+use mathlib.Core.List.{List, [], _∷_, _++_, List·Memᴰ·head, List·Memᴰ·tail}
+use mathlib.Core.Option.{Option, none, some}
+use lib.Dec.{leb, eqb}
+use lib.ListN.{length, getD, set, length-set}
+use borrow.Author.Tests.{le-leb, lt-leb, leb-false, eq-eqb, ne-eqb}
+use Rattle.equilibrium.specs.Meaning.{_∈_}
+use Rattle.format.specs.Text.{Bytes, fieldsOf, numberOf, is, any, sameList, _<$>_, _<*>_, onlyIf}
+use Rattle.format.specs.File.{Node, Body, File, in-formulas}
+use Rattle.format.specs.Line.{formulaLine, lineOf, nodeOf, unary, binary}
+use Rattle.format.specs.Tables.{absent, joinAll, nodeRecord, nodeWidth, mostFormulas}
+use Rattle.format.specs.Tests.{_when_, outOfOrder, unknownFormula, refersAhead, sameNode, first, formulaTests}
+use Rattle.format.specs.Judged.{Place, next, refused, settled, step, withNode}
+use Rattle.format.specs.Good.{Good}
+use Rattle.format.proofs.Booleans.{list-same}
+use Rattle.format.proofs.GoodBodies.{Held, good-held}
+use Rattle.format.proofs.Stepping.{step-formula}
+use Rattle.format.proofs.Formulas.{known-earlier}
+use Rattle.text.specs.Parts.{Fielded, FieldPart}
+use Rattle.text.specs.Numbers.{numberAs, NumberRead}
+use Rattle.text.specs.Words.{formulaWord}
+use Rattle.text.specs.declared.numbers.Number.{Number}
+use Rattle.text.specs.declared.parts.Fields.{Fields}
+use Rattle.tables.specs.Records.{written, nodeNumbers}
+use Rattle.tables.specs.Counts.{countsOf, withFormula}
+use Rattle.tables.specs.Index.{NodeFound}
+use Rattle.tables.specs.Entering.{Appended, FormulaEntered}
+use Rattle.tables.specs.declared.counts.Counts.{Counts}
+use Rattle.tables.specs.declared.found.Found.{Found}
+use Rattle.tables.specs.declared.formulas.Entry.{Entry}
+use Rattle.tables.specs.declared.records.NodeRecord.{NodeRecord}
+use Rattle.tables.proofs.Counting.{counts-node}
+use Rattle.tables.proofs.Encoded.{nodes-length}
+use Rattle.tables.proofs.Indexing.{length-entered, record-there}
+use Rattle.tables.proofs.Knowing.{known-more}
+use Rattle.lines.specs.State.{refusedBy, passedBy, notNext, Contents, Exactly, Stored}
+use Rattle.lines.specs.Lined.{OfKind, Lined}
+use Rattle.lines.specs.FormulaLines.{writtenAs, narrowed, aheadIn, FormulaNumbered, FormulaLined, withFormulas}
+use Rattle.rows.specs.Early.{numbered}
+use Rattle.lines.specs.declared.state.State.{State}
+use Rattle.lines.specs.declared.state.Stepped.{Stepped}
+use Rattle.lines.specs.declared.formula.Written.{Written}
+use Rattle.lines.proofs.LineLaws.{
+  line-formula,
+  line-no-formula,
+  number-value,
+  number-bad,
+  order-same,
+  number-given,
+  keeps-passed,
+  steps-next,
+  line-refused,
+  written-length,
+  put-exactly,
+  nodes-held,
+}
+use Rattle.rows.proofs.Numbering.{numbered-none}
+
+-- ---- the formula of three fields
+
+-- the formula by the number of its word
+abbrev nodeBy : ℕ → Bytes → Bytes → Option Node
+nodeBy zero first second = onlyIf (is "-" first && is "-" second) (some Node.bot)
+nodeBy (suc zero) first second = unary Node.atom first second
+nodeBy (suc (suc zero)) first second = unary Node.not first second
+nodeBy (suc (suc (suc zero))) first second = binary Node.and first second
+nodeBy (suc (suc (suc (suc zero)))) first second = binary Node.or first second
+nodeBy (suc (suc (suc (suc (suc zero))))) first second = binary Node.imp first second
+nodeBy (suc (suc (suc (suc (suc (suc w)))))) first second = none
+
+-- the formulas of the words with one operand, and of those with two
+abbrev oneOf : ℕ → ℕ → Node
+oneOf w n = cond (eqb w 1) (Node.atom n) (Node.not n)
+
+abbrev twoOf : ℕ → ℕ → ℕ → Node
+twoOf w n m = cond (eqb w 3) (Node.and n m) (cond (eqb w 4) (Node.or n m) (Node.imp n m))
+
+module _ (field first second : Bytes) where
+  word-cases :
+      (P : ℕ → Option Node → Type 0) → P 0 (nodeBy 0 first second) → P 1 (nodeBy 1 first second) → P 2 (nodeBy 2 first second)
+      → P 3 (nodeBy 3 first second) → P 4 (nodeBy 4 first second) → P 5 (nodeBy 5 first second) → P 6 none
+      → P (formulaWord field) (nodeOf field first second)
+  unfolding formulaWord nodeOf
+  word-cases P p q r s t u v = cases (is "bot" field) (is "atom" field) (is "not" field) (is "and" field) (is "or" field) (is "imp" field)
+    where
+      cases : (a b c d e f : Bool)
+          → P (cond a 0 (cond b 1 (cond c 2 (cond d 3 (cond e 4 (cond f 5 6)))))) (
+          cond a (nodeBy 0 first second) (
+          cond b (nodeBy 1 first second) (
+          cond c (nodeBy 2 first second) (
+          cond d (nodeBy 3 first second) (cond e (nodeBy 4 first second) (cond f (nodeBy 5 first second) none))))))
+      cases true b c d e f = p
+      cases false true c d e f = q
+      cases false false true d e f = r
+      cases false false false true e f = s
+      cases false false false false true f = t
+      cases false false false false false true = u
+      cases false false false false false false = v
+
+  node-by-word : nodeOf field first second ≡ nodeBy (formulaWord field) first second
+  node-by-word = word-cases (λ w o. o ≡ nodeBy w first second) refl refl refl refl refl refl refl
+
+  word-small : formulaWord field ≤ 6
+  word-small = word-cases (λ w o. w ≤ 6) (omega arith) (omega arith) (omega arith) (omega arith) (omega arith) (omega arith) (omega arith)
+
+  module _ (w : ℕ) (is-word : w ≡ formulaWord field) where
+    by-word : nodeOf field first second ≡ nodeBy w first second
+    by-word = node-by-word ∙ ap (λ (k : ℕ). nodeBy k first second) (sym is-word)
+
+    pub no-word : w ≡ 6 → writtenAs none ≡ writtenAs (nodeOf field first second)
+    no-word e = sym (ap writtenAs (by-word ∙ ap (λ (k : ℕ). nodeBy k first second) e))
+
+    module _ (e : w ≡ 0) where
+      bot-by : (a b : Bool) → is "-" first ≡ a → is "-" second ≡ b → nodeOf field first second ≡ onlyIf (a && b) (some Node.bot)
+      bot-by a b p q = by-word ∙ ap (λ (k : ℕ). nodeBy k first second) e ∙ ap₂ (λ (x y : Bool). onlyIf (x && y) (some Node.bot)) p q
+
+      pub bot-first : is "-" first ≡ false → writtenAs none ≡ writtenAs (nodeOf field first second)
+      bot-first p = sym (ap writtenAs (bot-by false (is "-" second) p refl))
+
+      pub bot-second : is "-" first ≡ true → is "-" second ≡ false → writtenAs none ≡ writtenAs (nodeOf field first second)
+      bot-second p q = sym (ap writtenAs (bot-by true false p q))
+
+      pub bot-read : is "-" first ≡ true → is "-" second ≡ true
+          → record { well = true; word = w; first = absent; second = absent } ≡ writtenAs (nodeOf field first second)
+      bot-read p q = ap (λ (k : ℕ). record { well = true; word = k; first = absent; second = absent }) e ∙ sym (ap writtenAs (bot-by true true p q))
+
+    module _ (operand : w ≡ 0 → ⊥) where
+      pub first-bad : numberAs (numberOf first) ≡ Number.Bad → writtenAs none ≡ writtenAs (nodeOf field first second)
+      first-bad p = sym (ap writtenAs (by-word ∙ cases w operand))
+        where
+          no-first : numberOf first ≡ none
+          no-first = number-bad _ p
+
+          one : (node : ℕ → Node) → unary node first second ≡ none
+          one node = ap (λ (o : Option ℕ). onlyIf (is "-" second) (node <$> o)) no-first ∙ either (is "-" second)
+            where
+              either : (b : Bool) → onlyIf {A = Node} b none ≡ none
+              either true = refl
+              either false = refl
+
+          two : (node : ℕ → ℕ → Node) → binary node first second ≡ none
+          two node = ap (λ (o : Option ℕ). node <$> o <*> numberOf second) no-first
+
+          cases : (k : ℕ) → (k ≡ 0 → ⊥) → nodeBy k first second ≡ none
+          cases zero h = absurd (h refl)
+          cases (suc zero) h = one Node.atom
+          cases (suc (suc zero)) h = one Node.not
+          cases (suc (suc (suc zero))) h = two Node.and
+          cases (suc (suc (suc (suc zero)))) h = two Node.or
+          cases (suc (suc (suc (suc (suc zero))))) h = two Node.imp
+          cases (suc (suc (suc (suc (suc (suc k)))))) h = refl
+
+      module _ (n : ℕ) (first-is : numberAs (numberOf first) ≡ Number.Value n) where
+        first-read : numberOf first ≡ some n
+        first-read = number-value _ n first-is
+
+        module _ (one : w < 3) where
+          by-dash : (b : Bool) → is "-" second ≡ b → nodeOf field first second ≡ onlyIf b (some (oneOf w n))
+          by-dash b q = by-word ∙ cases w operand one
+            where
+              cases : (k : ℕ) → (k ≡ 0 → ⊥) → k < 3 → nodeBy k first second ≡ onlyIf b (some (oneOf k n))
+              cases zero h l = absurd (h refl)
+              cases (suc zero) h l = ap₂ (λ (d : Bool) (o : Option ℕ). onlyIf d (Node.atom <$> o)) q first-read
+              cases (suc (suc zero)) h l = ap₂ (λ (d : Bool) (o : Option ℕ). onlyIf d (Node.not <$> o)) q first-read
+              cases (suc (suc (suc k))) h l = absurd (omega arith)
+
+          pub one-operand-more : is "-" second ≡ false → writtenAs none ≡ writtenAs (nodeOf field first second)
+          one-operand-more q = sym (ap writtenAs (by-dash false q))
+
+          pub one-read : is "-" second ≡ true → record { well = true; word = w; first = n; second = absent } ≡ writtenAs (nodeOf field first second)
+          one-read q = cases w operand one ∙ sym (ap writtenAs (by-dash true q))
+            where
+              cases : (k : ℕ) → (k ≡ 0 → ⊥) → k < 3 → record { well = true; word = k; first = n; second = absent } ≡ writtenAs (some (oneOf k n))
+              cases zero h l = absurd (h refl)
+              cases (suc zero) h l = refl
+              cases (suc (suc zero)) h l = refl
+              cases (suc (suc (suc k))) h l = absurd (omega arith)
+
+        module _ (two : 3 ≤ w) (word : w ≡ 6 → ⊥) where
+          by-second : (o : Option ℕ) → numberOf second ≡ o → nodeOf field first second ≡ twoOf w n <$> o
+          by-second o q = by-word ∙ cases w two (omega (arith, word-small)) (λ e. word e)
+            where
+              with-both : (node : ℕ → ℕ → Node) → binary node first second ≡ node n <$> o
+              with-both node = ap₂ (λ (x y : Option ℕ). node <$> x <*> y) first-read q
+
+              cases : (k : ℕ) → 3 ≤ k → k ≤ 6 → (k ≡ 6 → ⊥) → nodeBy k first second ≡ twoOf k n <$> o
+              cases zero h l e = absurd (omega arith)
+              cases (suc zero) h l e = absurd (omega arith)
+              cases (suc (suc zero)) h l e = absurd (omega arith)
+              cases (suc (suc (suc zero))) h l e = with-both Node.and
+              cases (suc (suc (suc (suc zero)))) h l e = with-both Node.or
+              cases (suc (suc (suc (suc (suc zero))))) h l e = with-both Node.imp
+              cases (suc (suc (suc (suc (suc (suc k)))))) h l e = absurd (omega arith)
+
+          pub second-bad : numberAs (numberOf second) ≡ Number.Bad → writtenAs none ≡ writtenAs (nodeOf field first second)
+          second-bad q = sym (ap writtenAs (by-second none (number-bad _ q)))
+
+          pub two-read : (m : ℕ) → numberAs (numberOf second) ≡ Number.Value m
+              → record { well = true; word = w; first = n; second = m } ≡ writtenAs (nodeOf field first second)
+          two-read m q =
+              cases w two (omega (arith, word-small)) (λ e. word e) ∙ sym (ap writtenAs (by-second (some m) (number-value _ m q)))
+            where
+              cases : (k : ℕ) → 3 ≤ k → k ≤ 6 → (k ≡ 6 → ⊥) → record { well = true; word = k; first = n; second = m } ≡ writtenAs (some (twoOf k n m))
+              cases zero h l e = absurd (omega arith)
+              cases (suc zero) h l e = absurd (omega arith)
+              cases (suc (suc zero)) h l e = absurd (omega arith)
+              cases (suc (suc (suc zero))) h l e = refl
+              cases (suc (suc (suc (suc zero)))) h l e = refl
+              cases (suc (suc (suc (suc (suc zero))))) h l e = refl
+              cases (suc (suc (suc (suc (suc (suc k)))))) h l e = absurd (omega arith)
+
+-- ---- operands that are not earlier
+
+module _ (node : Written) (c : Counts) where
+  ahead-by : (a b d e : Bool) → eqb (node .word) 0 ≡ a → eqb (node .word) 1 ≡ b → eqb (node .word) 2 ≡ d → leb (c .formulas) (node .first) ≡ e
+      → aheadIn node c ≡ cond a false (cond b (leb (c .atoms) (node .first)) (cond d e (e || leb (c .formulas) (node .second))))
+  unfolding aheadIn
+  ahead-by a b d e p q r s = cc
+
+  pub no-operand : node .word ≡ 0 → false ≡ aheadIn node c
+  no-operand h = sym (ahead-by true _ _ _ (eq-eqb _ _ h) refl refl refl)
+
+  module _ (operand : node .word ≡ 0 → ⊥) where
+    pub atom-ahead : node .word ≡ 1 → leb (c .atoms) (node .first) ≡ aheadIn node c
+    atom-ahead h = sym (ahead-by false true _ _ (ne-eqb _ _ operand) (eq-eqb _ _ h) refl refl)
+
+    module _ (no-atom : node .word ≡ 1 → ⊥) where
+      pub first-ahead : c .formulas ≤ node .first → true ≡ aheadIn node c
+      first-ahead h = sym (ahead-by false false _ true (ne-eqb _ _ operand) (ne-eqb _ _ no-atom) refl (le-leb _ _ h) ∙ either (eqb (node .word) 2))
+        where
+          either : (two : Bool) → cond two true true ≡ true
+          either true = refl
+          either false = refl
+
+      module _ (earlier : node .first < c .formulas) where
+        pub one-earlier : node .word ≡ 2 → false ≡ aheadIn node c
+        one-earlier h = sym (ahead-by false false true false (ne-eqb _ _ operand) (ne-eqb _ _ no-atom) (eq-eqb _ _ h) (lt-leb _ _ earlier))
+
+        pub second-ahead : (node .word ≡ 2 → ⊥) → leb (c .formulas) (node .second) ≡ aheadIn node c
+        second-ahead h = sym (ahead-by false false false false (ne-eqb _ _ operand) (ne-eqb _ _ no-atom) (ne-eqb _ _ h) (lt-leb _ _ earlier))
+
+ahead-of : (b : Body) (m : Node) → aheadIn (writtenAs (some m)) (countsOf b) ≡ refersAhead b m
+unfolding aheadIn
+ahead-of b Node.bot = refl
+ahead-of b (Node.atom k) = refl
+ahead-of b (Node.not i) = sym (or-false (leb (length (b .nodes)) i))
+ahead-of b (Node.and i j) = ap (λ (t : Bool). leb (length (b .nodes)) i || t) (sym (or-false (leb (length (b .nodes)) j)))
+ahead-of b (Node.or i j) = ap (λ (t : Bool). leb (length (b .nodes)) i || t) (sym (or-false (leb (length (b .nodes)) j)))
+ahead-of b (Node.imp i j) = ap (λ (t : Bool). leb (length (b .nodes)) i || t) (sym (or-false (leb (length (b .nodes)) j)))
+
+-- a formula whose operands are earlier fits a record of 16-bit numbers
+record-fits : (b : Body) → Held b → (m : Node) → refersAhead b m ≡ false → nodeNumbers (narrowed (writtenAs (some m))) ≡ nodeRecord m
+record-fits b limits m e = cases m e
+  where
+    same : (i : ℕ) → i < 65536 → i % 65536 ≡ i
+    same i h = omega arith
+
+    earlier : (is : List ℕ) → unknownFormula b is ≡ false → (i : ℕ) → i ∈ is → i % 65536 ≡ i
+    earlier is e i m = same i (omega (arith, known-earlier b is e i m, limits .few-nodes))
+
+    both : (w i j : ℕ) → unknownFormula b (i ∷ j ∷ []) ≡ false → _≡_ {A = List ℕ} (w ∷ i % 65536 ∷ j % 65536 ∷ []) (w ∷ i ∷ j ∷ [])
+    both w i j e =
+        ap₂ (λ (x y : ℕ). w ∷ x ∷ y ∷ []) (earlier (i ∷ j ∷ []) e i (List·Memᴰ·head refl)) (earlier (i ∷ j ∷ []) e j (List·Memᴰ·tail (List·Memᴰ·head refl)))
+
+    cases : (n : Node) → refersAhead b n ≡ false → nodeNumbers (narrowed (writtenAs (some n))) ≡ nodeRecord n
+    cases Node.bot e = refl
+    cases (Node.atom k) e = ap (λ (x : ℕ). 1 ∷ x ∷ absent ∷ []) (same k (omega (arith, leb-false (b .atoms) k e, limits .few-atoms)))
+    cases (Node.not i) e = ap (λ (x : ℕ). 2 ∷ x ∷ absent ∷ []) (earlier (i ∷ []) e i (List·Memᴰ·head refl))
+    cases (Node.and i j) e = both 3 i j e
+    cases (Node.or i j) e = both 4 i j e
+    cases (Node.imp i j) e = both 5 i j e
+
+-- ---- the numbers 4, 5 and 7, and then 8
+
+abbrev firstOf : Bool → Bool → Bool → Option ℕ
+firstOf out over ahead = first ((4 when out) ∷ (5 when over) ∷ (7 when ahead) ∷ [])
+
+module _ (s : State) (n : ℕ) (node : Written) where
+  by-tests : (out over ahead : Bool) → notNext (s .stage) 1 (s .counts .formulas) n ≡ out → leb mostFormulas (s .counts .formulas) ≡ over
+      → aheadIn node (s .counts) ≡ ahead → (k : ℕ) → numbered k ≡ firstOf out over ahead → FormulaNumbered s n node k
+  by-tests out over ahead p q r k e = record { tests = e ∙ cc }
+
+  pub number-out : notNext (s .stage) 1 (s .counts .formulas) n ≡ true → FormulaNumbered s n node 4
+  number-out p = by-tests true _ _ p refl refl 4 refl
+
+  module _ (p : notNext (s .stage) 1 (s .counts .formulas) n ≡ false) where
+    pub number-full : mostFormulas ≤ s .counts .formulas → FormulaNumbered s n node 5
+    number-full q = by-tests false true _ p (le-leb _ _ q) refl 5 refl
+
+    module _ (q : s .counts .formulas < mostFormulas) where
+      pub number-ahead : aheadIn node (s .counts) ≡ true → FormulaNumbered s n node 7
+      number-ahead r = by-tests false false true p (lt-leb _ _ q) r 7 refl
+
+      pub number-none : aheadIn node (s .counts) ≡ false → FormulaNumbered s n node 0
+      number-none r = by-tests false false false p (lt-leb _ _ q) r 0 refl
+
+module _ (out room ahead again : Bool) (k : ℕ) (e : numbered k ≡ first ((4 when out) ∷ (5 when room) ∷ (7 when ahead) ∷ [])) where
+  numbered-early : (k ≡ 0 → ⊥) → numbered k ≡ first ((4 when out) ∷ (5 when room) ∷ (7 when ahead) ∷ (8 when again) ∷ [])
+  numbered-early h = cases out room ahead e
+    where
+      cases : (a b c : Bool) → numbered k ≡ first ((4 when a) ∷ (5 when b) ∷ (7 when c) ∷ [])
+          → numbered k ≡ first ((4 when a) ∷ (5 when b) ∷ (7 when c) ∷ (8 when again) ∷ [])
+      cases true b c e = e
+      cases false true c e = e
+      cases false false true e = e
+      cases false false false e = absurd (h (numbered-none k .0 e))
+
+  numbered-late : k ≡ 0
+      → (ahead ≡ false) × (room ≡ false) × (first ((4 when out) ∷ (5 when room) ∷ (7 when ahead) ∷ (8 when again) ∷ []) ≡ cond again (some 8) none)
+  numbered-late z = cases out room ahead (sym e ∙ numbered-none k .1 z)
+    where
+      cases : (a b c : Bool) → first ((4 when a) ∷ (5 when b) ∷ (7 when c) ∷ []) ≡ none
+          → (c ≡ false) × (b ≡ false) × (first ((4 when a) ∷ (5 when b) ∷ (7 when c) ∷ (8 when again) ∷ []) ≡ cond again (some 8) none)
+      cases true b c e = let z : _≡_ {A = ℕ} 0 1 = cc in absurd (omega arith)
+      cases false true c e = let z : _≡_ {A = ℕ} 0 1 = cc in absurd (omega arith)
+      cases false false true e = let z : _≡_ {A = ℕ} 0 1 = cc in absurd (omega arith)
+      cases false false false e = (refl, refl, refl)
+
+-- ---- the fields
+
+-- the formula that an F line writes
+abbrev nodeIn : Bytes → Option Node
+nodeIn line = nodeOf (getD (fieldsOf line) 2 []) (getD (fieldsOf line) 3 []) (getD (fieldsOf line) 4 [])
+
+well-written : (o : Option Node) → writtenAs o .well ≡ true → (m : Node) × (o ≡ some m)
+well-written none e = absurd (true≢false (sym e))
+well-written (some m) e = (m, refl)
+
+badly-written : (o : Option Node) → writtenAs o .well ≡ false → o ≡ none
+badly-written none e = refl
+badly-written (some m) e = absurd (true≢false e)
+
+-- what an F line writes: a formula under its number
+pub record FormulaRead (line : Bytes) (n : ℕ) (node : Written) : Type 0 where
+  pub formula : Node
+  pub read : lineOf line ≡ some (formulaLine n formula)
+  pub written-as : node ≡ writtenAs (some formula)
+
+module _ (line : Bytes) (fields : Fields) (fielded : Fielded line fields) (kind : OfKind "F" line) where
+  pub formula-miscounted : (fields .count ≡ 5 → ⊥) → lineOf line ≡ none
+  formula-miscounted h = line-no-formula line kind (λ e. h (fielded .counted ∙ e))
+
+  module _ (five : fields .count ≡ 5) where
+    by-fields : (o : Option ℕ) (q : Option Node) → numberOf (getD (fieldsOf line) 1 []) ≡ o → nodeIn line ≡ q
+        → lineOf line ≡ (λ n m. formulaLine n m) <$> o <*> q
+    by-fields o q e k =
+        line-formula line kind (sym (fielded .counted) ∙ five)
+        ∙ ap₂ (λ (x : Option ℕ) (y : Option Node). (λ n m. formulaLine n m) <$> x <*> y) e k
+
+    module _ {first : Bytes} {own : Number} (at-first : FieldPart line fields 1 first) (number-read : NumberRead first own) where
+      own-is : own ≡ numberAs (numberOf (getD (fieldsOf line) 1 []))
+      own-is = number-read .answer ∙ ap (λ (x : Bytes). numberAs (numberOf x)) (at-first .field fielded (omega arith))
+
+      pub formula-unnumbered : own ≡ Number.Bad → lineOf line ≡ none
+      formula-unnumbered e = by-fields none (nodeIn line) (number-bad _ (sym own-is ∙ e)) refl
+
+      module _ {n : ℕ} (is-number : own ≡ Number.Value n) {b c d : Bytes} (at-b : FieldPart line fields 2 b) (at-c : FieldPart line fields 3 c)
+          (at-d : FieldPart line fields 4 d) {node : Written} (is-node : node ≡ writtenAs (nodeOf b c d)) where
+        number-is : numberOf (getD (fieldsOf line) 1 []) ≡ some n
+        number-is = number-value _ n (sym own-is ∙ is-number)
+
+        node-is : node ≡ writtenAs (nodeIn line)
+        node-is =
+            let word = at-b .field fielded (omega arith) in
+            let one = at-c .field fielded (omega arith) in
+            let two = at-d .field fielded (omega arith) in
+            is-node ∙ cc
+
+        pub formula-unwritten : node .well ≡ false → lineOf line ≡ none
+        formula-unwritten e = by-fields (some n) none number-is (badly-written (nodeIn line) (sym (ap (λ (x : Written). x .well) node-is) ∙ e))
+
+        pub formula-read : node .well ≡ true → FormulaRead line n node
+        formula-read e =
+            let found = well-written (nodeIn line) (sym (ap (λ (x : Written). x .well) node-is) ∙ e) in
+            record {
+              formula = found .0;
+              read = by-fields (some n) (some (found .0)) number-is (found .1);
+              written-as = node-is ∙ ap writtenAs (found .1);
+            }
+
+-- ---- what entering the formula came to
+
+module _ {formulas words formulas′ words′ : List ℕ} {count : ℕ} {key : NodeRecord} where
+  pub entered-held : {r : Entry} → FormulaEntered formulas words count key formulas′ words′ r → (i : ℕ) → r ≡ Entry.Held i
+      → NodeFound formulas words (nodeNumbers key) (Found.At i) × (formulas′ ≡ formulas) × (words′ ≡ words)
+  entered-held (FormulaEntered.full most same-formulas same-words) i e = let z : _≡_ {A = ℕ} 0 1 = cc in absurd (omega arith)
+  entered-held (FormulaEntered.held j few found same-formulas same-words) i e =
+      let k : j ≡ i = cc in
+      (subst (λ (x : ℕ). NodeFound formulas words (nodeNumbers key) (Found.At x)) k found, same-formulas, same-words)
+  entered-held (FormulaEntered.new few found more) i e = let z : _≡_ {A = ℕ} 0 1 = cc in absurd (omega arith)
+
+  pub entered-full : {r : Entry} → FormulaEntered formulas words count key formulas′ words′ r → r ≡ Entry.Full → mostFormulas ≤ count
+  entered-full (FormulaEntered.full most same-formulas same-words) e = most
+  entered-full (FormulaEntered.held j few found same-formulas same-words) e = let z : _≡_ {A = ℕ} 0 1 = cc in absurd (omega arith)
+  entered-full (FormulaEntered.new few found more) e = let z : _≡_ {A = ℕ} 0 1 = cc in absurd (omega arith)
+
+  pub entered-new : {r : Entry} → FormulaEntered formulas words count key formulas′ words′ r → (i : ℕ) → r ≡ Entry.New i
+      → NodeFound formulas words (nodeNumbers key) Found.Nowhere × Appended formulas words count key formulas′ words′
+  entered-new (FormulaEntered.full most same-formulas same-words) i e = let z : _≡_ {A = ℕ} 0 1 = cc in absurd (omega arith)
+  entered-new (FormulaEntered.held j few found same-formulas same-words) i e = let z : _≡_ {A = ℕ} 0 1 = cc in absurd (omega arith)
+  entered-new (FormulaEntered.new few found more) i e = (found, more)
+
+  formulas-length : Appended formulas words count key formulas′ words′ → length formulas′ ≡ length formulas
+  formulas-length more = ap length (more .put) ∙ written-length formulas (nodeWidth * count) (nodeNumbers key)
+
+  words-length : Appended formulas words count key formulas′ words′ → length words′ ≡ length words
+  words-length more = ap length (more .noted) ∙ length-entered (set words count (more .atoms)) count (nodeNumbers key) ∙ length-set words count (more .atoms)
+
+any-at : {A : Type 0} (test : A → Bool) (xs : List A) (i : ℕ) (d : A) → i < length xs → test (getD xs i d) ≡ true → any test xs ≡ true
+any-at test [] i d h e = absurd (omega arith)
+any-at test (x ∷ xs) zero d h e = ap (λ (b : Bool). b || any test xs) e
+any-at test (x ∷ xs) (suc i) d h e = ap (λ (b : Bool). test x || b) (any-at test xs i d (omega arith) e) ∙ or-true (test x)
+
+-- ---- the line, by a beginning that the tables hold
+
+module _ (line : Bytes) (number : ℕ) (s : State) (formulas words : List ℕ) (n : ℕ) (node : Written) (k : ℕ) (numbers : FormulaNumbered s n node k)
+    (read : FormulaRead line n node) where
+  abbrev m : Node
+  m = read .formula
+
+  module _ {text : Bytes} {f : File} {done : List Bytes} (t : Contents) (p : Place) (good : Good done f)
+      (stored : Stored text f s (withFormulas t formulas words)) where
+    abbrev nodes : List Node
+    nodes = f .body .nodes
+
+    abbrev out : Bool
+    out = outOfOrder (f .stage) in-formulas (length nodes) n
+
+    abbrev over : Bool
+    over = leb mostFormulas (length nodes)
+
+    abbrev ahead : Bool
+    ahead = refersAhead (f .body) m
+
+    abbrev again : Bool
+    again = any (λ x. sameNode x m) nodes
+
+    held-count : s .counts .formulas ≡ length nodes
+    held-count = ap (λ (c : Counts). c .formulas) (stored .counts)
+
+    tests-here : numbered k ≡ first ((4 when out) ∷ (5 when over) ∷ (7 when ahead) ∷ [])
+    tests-here =
+        let order : notNext (s .stage) 1 (s .counts .formulas) n ≡ out = order-same (f .stage) in-formulas (length nodes) n (stored .stage) held-count in
+        let room : leb mostFormulas (s .counts .formulas) ≡ over = ap (leb mostFormulas) held-count in
+        let earlier : aheadIn node (s .counts) ≡ ahead = ap₂ aheadIn (read .written-as) (stored .counts) ∙ ahead-of (f .body) m in
+        numbers .tests ∙ cc
+
+    early : (k ≡ 0 → ⊥) → step f p line ≡ refused k (p .line)
+    early h = step-formula f p line n m (read .read) ∙ number-given k _ p (withNode f m) (numbered-early out over ahead again k tests-here h) h
+
+    module _ (z : k ≡ 0) (key : NodeRecord) (is-key : key ≡ narrowed node) where
+      late : (ahead ≡ false) × (over ≡ false) × (first (formulaTests f n m) ≡ cond again (some 8) none)
+      late = numbered-late out over ahead again k tests-here z
+
+      is-record : nodeNumbers key ≡ nodeRecord m
+      is-record = ap nodeNumbers (is-key ∙ ap narrowed (read .written-as)) ∙ record-fits (f .body) (good-held (good .body)) m (late .0)
+
+      again-refused : (i : ℕ) → NodeFound formulas words (nodeNumbers key) (Found.At i) → step f p line ≡ refused 8 (p .line)
+      again-refused i found =
+          step-formula f p line n m (read .read)
+          ∙ ap (λ (o : Option ℕ). settled o p (withNode f m)) (late .2 ∙ ap (λ (b : Bool). cond b (some 8) none) there)
+        where
+          inside : i < length nodes
+          inside = found .within nodes (nodes-held stored) (stored .known .index) i refl
+
+          same : nodeRecord m ≡ nodeRecord (getD nodes i Node.bot)
+          same = sym is-record ∙ sym (found .there i refl) ∙ record-there (nodes-held stored) i inside
+
+          there : again ≡ true
+          there =
+              any-at (λ x. sameNode x m) nodes i Node.bot inside (ap (λ (l : List ℕ). sameList (nodeRecord (getD nodes i Node.bot)) l) same ∙ list-same _)
+
+      module _ {formulas′ words′ : List ℕ} (found : NodeFound formulas words (nodeNumbers key) Found.Nowhere)
+          (more : Appended formulas words (s .counts .formulas) key formulas′ words′) where
+        passes : step f p line ≡ next (withNode f m)
+        passes =
+            step-formula f p line n m (read .read)
+            ∙ ap (λ (o : Option ℕ). settled o p (withNode f m)) (late .2 ∙ ap (λ (b : Bool). cond b (some 8) none) nowhere)
+          where
+            nowhere : again ≡ false
+            nowhere =
+                ap (λ (l : List ℕ). any (λ x. sameList (nodeRecord x) l) nodes) (sym is-record)
+                ∙ found .missing nodes (nodes-held stored) (stored .known .index) refl
+
+        room : length nodes < mostFormulas
+        room = leb-false _ _ (late .1)
+
+        formulas-held : Exactly (joinAll nodeRecord (nodes ++ m ∷ [])) formulas′
+        formulas-held =
+            subst (Exactly (joinAll nodeRecord (nodes ++ m ∷ []))) (sym put-there)
+            (put-exactly nodeRecord formulas nodes m (nodeWidth * length nodes) (stored .formulas) (nodes-length nodes) fits)
+          where
+            put-there : formulas′ ≡ written formulas (nodeWidth * length nodes) (nodeRecord m)
+            put-there = more .put ∙ ap₂ (λ (c : ℕ) (l : List ℕ). written formulas (nodeWidth * c) l) held-count is-record
+
+            fits : nodeWidth * length nodes + length (nodeRecord m) ≤ length formulas
+            fits = omega (arith, ap length (sym is-record), room, stored .full .formulas)
+
+        after : Stored text (withNode f m) (passedBy s (withFormula (s .counts)) 1 number .state) (withFormulas t formulas′ words′)
+        after =
+            let whole = stored .full in
+            record {
+              full =
+                  record {
+                    names = whole .names;
+                    formulas = omega (arith, formulas-length more, whole .formulas);
+                    words = omega (arith, words-length more, whole .words);
+                    rows = whole .rows;
+                    left = whole .left;
+                    right = whole .right;
+                  };
+              counts = ap withFormula (stored .counts) ∙ counts-node (f .body) m room;
+              stage = refl;
+              claim = stored .claim;
+              names-in = stored .names-in;
+              names = stored .names;
+              formulas = formulas-held;
+              known =
+                  known-more (good .body) (stored .known) m is-record more (late .0) held-count (omega (arith, held-count, room)) (whole .words);
+              rows = stored .rows;
+              left = stored .left;
+              right = stored .right;
+            }
+
+  -- ---- what the line comes to
+
+  pub formula-early : {r : Stepped} → (k ≡ 0 → ⊥) → r ≡ refusedBy s k number → FormulaLined line number s r formulas words formulas words
+  formula-early h e text start t = line-refused k _ e (λ f p done good stored. early t p good stored h)
+
+  module _ (z : k ≡ 0) {key : NodeRecord} (is-key : key ≡ narrowed node) {formulas′ words′ : List ℕ} {entry : Entry}
+      (entered : FormulaEntered formulas words (s .counts .formulas) key formulas′ words′ entry) where
+    pub formula-held : {r : Stepped} (i : ℕ) → entry ≡ Entry.Held i → r ≡ refusedBy s 8 number → FormulaLined line number s r formulas words formulas′ words′
+    formula-held {r} i is-held e text start t =
+        let parts = entered-held entered i is-held in
+        subst (λ (u : Contents). Lined text start line number s r (withFormulas t formulas words) u) (ap₂ (withFormulas t) (sym (parts .1)) (sym (parts .2)))
+        (line-refused 8 _ e (λ f p done good stored. again-refused t p good stored z key is-key i (parts .0)))
+
+    pub formula-full : {r : Stepped} → entry ≡ Entry.Full → FormulaLined line number s r formulas words formulas′ words′
+    formula-full is-full =
+        let out = notNext (s .stage) 1 (s .counts .formulas) n in
+        let ahead-here = aheadIn node (s .counts) in
+        let few = leb-false mostFormulas (s .counts .formulas) (numbered-late out _ ahead-here false k (numbers .tests) z .1) in
+        absurd (omega (arith, few, entered-full entered is-full))
+
+    pub formula-new : {r : Stepped} {counts : Counts} (i : ℕ) → entry ≡ Entry.New i → counts ≡ withFormula (s .counts) → r ≡ passedBy s counts 1 number
+        → FormulaLined line number s r formulas words formulas′ words′
+    formula-new {r} i is-new more-counts e text start t =
+        let parts = entered-new entered i is-new in
+        let more = parts .1 in
+        let zero-number : r .number ≡ 0 = ap (λ (x : Stepped). x .number) e in
+        let by-counts = ap (λ (x : Counts). passedBy s x 1 number .state) more-counts in
+        let state-is : passedBy s (withFormula (s .counts)) 1 number .state ≡ r .state = sym (ap (λ (x : Stepped). x .state) e ∙ by-counts) in
+        record {
+          steps =
+              λ f p done good stored size at-start at-line.
+              steps-next r (withNode f m) (passes t p good stored z key is-key (parts .0) more) zero-number
+              (subst (λ (x : State). Stored text (withNode f m) x (withFormulas t formulas′ words′)) state-is
+              (after t p good stored z key is-key (parts .0) more));
+          keeps =
+              keeps-passed zero-number
+              (record { names = refl; formulas = formulas-length more; words = words-length more; rows = refl; left = refl; right = refl });
+        }
