@@ -74,8 +74,8 @@ returns-3 c text start t =
     let own = counted .before .before .before .before .before .before .before .before in
     let line = own .args .line .now in
     let found =
-          row-found line (own .pre .1) (sym (own .pre .0 .counted) ∙ counted .if1 .left) (read .read-row .ensures)
-          (sym (told .is-well .ensures) ∙ not-false (told .is-well .result) (well .if2 .left)) refl (lit≤ tt) (lit≤ tt) in
+    row-found line (own .pre .1) (sym (own .pre .0 .counted) ∙ counted .if1 .left) (read .read-row .ensures)
+    (sym (told .is-well .ensures) ∙ not-false (told .is-well .result) (well .if2 .left)) refl (lit≤ tt) (lit≤ tt) in
     settled .settle-row .ensures .lined text line start (found .0) (found .1) t (found .2) (found .3)
 
 pub row-line-spec : {M : Type 1} → statement M
