@@ -1,2 +1,4 @@
 -- Laws of lines: those of any kind, and those of each kind.
 pub mod LineLaws
+mod AtomLines
+mod ClaimLines
