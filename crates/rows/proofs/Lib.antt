@@ -2,5 +2,6 @@
 pub mod EarlyTests
 pub mod Numbering
 mod PremiseKinds
-
 mod Seen
+mod Steps
+mod Refetched

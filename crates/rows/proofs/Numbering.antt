@@ -1,7 +1,7 @@
 -- The number of a row, out of the tests before its rule and the verdict on its rule.
 use Prim.Native.Nat.{ℕ, zero, suc}
 use native.Mathlib.Omega.{arith}
-use mathlib.Core.Path.{_≡_, refl, sym, ap, _∙_}
+use mathlib.Core.Path.{_≡_, refl, sym, ap, ap₂, subst, _∙_}
 use mathlib.Core.Bool.{Bool, true, false, cond}
 use mathlib.Core.List.{List, [], _∷_, _++_, List·Memᴰ·head, List·Memᴰ·tail}
 use mathlib.Core.Logic.{_↔_}
@@ -9,7 +9,7 @@ use mathlib.Core.Option.{Option, none, some}
 use lib.ListN.{take}
 use Rattle.equilibrium.specs.Meaning.{_∈_}
 use Rattle.format.specs.File.{Row, Body}
-use Rattle.format.specs.Tests.{Test, first, ruleTests, bodyTests}
+use Rattle.format.specs.Tests.{Test, first, wrongPremises, wrongStep, ruleTests, bodyTests}
 use Rattle.format.specs.Passing.{RowInstance}
 use Rattle.format.proofs.RowPasses.{row-passes-exactly}
 use Rattle.tables.specs.declared.counts.Counts.{Counts}
@@ -42,8 +42,26 @@ pub numbered-none : (n : ℕ) → (numbered n ≡ none) ↔ (n ≡ 0)
 numbered-none zero = (λ e. refl, λ e. refl)
 numbered-none (suc n) = (λ e. let z : _≡_ {A = ℕ} 0 1 = cc in absurd (omega arith), λ e. absurd (omega arith))
 
+-- the verdicts on a row's rule
+
+pub ten-given : (b : Body) (r : Row) → wrongPremises b r ≡ true → some 10 ≡ first (ruleTests b r)
+ten-given b r e = sym (ap (λ (t : Bool). cond t (some 10) (cond (wrongStep b r) (some 11) none)) e)
+
+pub none-given : (b : Body) (r : Row) → RowInstance b r → none ≡ first (ruleTests b r)
+none-given b r i = sym (row-passes-exactly b r .1 i)
+
+pub eleven-given : (b : Body) (r : Row) → wrongPremises b r ≡ false → (RowInstance b r → ⊥) → some 11 ≡ first (ruleTests b r)
+eleven-given b r e n = sym (cases (wrongStep b r) refl)
+  where
+    by : (u : Bool) → wrongStep b r ≡ u → first (ruleTests b r) ≡ cond u (some 11) none
+    by u k = ap₂ (λ (t v : Bool). cond t (some 10) (cond v (some 11) none)) e k
+
+    cases : (u : Bool) → wrongStep b r ≡ u → first (ruleTests b r) ≡ some 11
+    cases true k = by true k
+    cases false k = absurd (n (row-passes-exactly b r .0 (by false k)))
+
 -- the verdict as a number
-abbrev verdictNumber : Verdict → ℕ
+abbrev pub verdictNumber : Verdict → ℕ
 verdictNumber Verdict.Passes = 0
 verdictNumber Verdict.WrongPremises = 10
 verdictNumber Verdict.WrongStep = 11
@@ -117,3 +135,13 @@ module _ (d : Draft) (c : Counts) (left right formulas words rows leftPool right
           let none-here = sym (ap first (early-same b (g .counts) drafted)) ∙ none-early in
           verdict-numbered v ∙ judged b r (ready g drafted none-here)
           ∙ sym (first-append (earlyTests b r) (ruleTests b r) ∙ ap (λ (o : Option ℕ). orElse o (first (ruleTests b r))) none-here)
+
+  -- the same, with the sides named as they were taken
+  pub late-fronted : early ≡ 0 → {x y : List ℕ} → x ≡ take (d .left .count) left → y ≡ take (d .right .count) right → (v : Verdict) {w : Verdict} → v ≡ w
+      → ((b : Body) (r : Row) → Judging b r formulas words rows leftPool rightPool d x y → numberOf v ≡ first (ruleTests b r))
+      → RowNumbered d c left right formulas words rows leftPool rightPool (verdictNumber w)
+  late-fronted h {x} {y} e f v told judged =
+      subst (λ (u : Verdict). RowNumbered d c left right formulas words rows leftPool rightPool (verdictNumber u)) told (
+      late-numbered h v (λ b r j. judged b r (
+      subst (λ (l : List ℕ). Judging b r formulas words rows leftPool rightPool d l y) (sym e) (
+      subst (λ (m : List ℕ). Judging b r formulas words rows leftPool rightPool d (take (d .left .count) left) m) (sym f) j))))

@@ -1,66 +1,82 @@
+-- `rows::step::premised_step` meets its contract: the sides that are fetched are those of the premises. Assumes nothing.
+use mathlib.Core.Path.{sym, ap, subst, _∙_}
+use mathlib.Core.Bool.{true, false}
 use borrow.Author.Needs.{needs}
+use Rattle.elk.specs.Rules.{entry}
+use Rattle.rows.proofs.Steps.{is-cut, is-unstable, is-schema, cut-decided, unstable-decided, schema-decided}
+use Rattle.rows.proofs.Refetched.{cut-refetched, unstable-refetched, schema-refetched}
 use Rattle.rows.proofs.step.premised_step.Statement.{statement}
 use Rattle.rows.proofs.step.premised_step.Tie as tie
-use Rattle.rows.proofs.step.premised_step.Reads as reads
-use Rattle.rows.proofs.step.premised_step.Lts as lts
-use Rattle.cut.proofs.cut_step.Reads as cut-step-reads
-use Rattle.rows.proofs.step.principal_number.Reads as principal-number-reads
-use Rattle.schema.proofs.schema_step.Reads as schema-step-reads
-use Rattle.tables.proofs.fetch.Reads as fetch-reads
-use Rattle.tables.proofs.records.wide.Reads as wide-reads
-use Rattle.unstable.proofs.unstable_step.Reads as unstable-step-reads
 
--- src/step.rt:63:9
 principal-number-requires : tie.Need-principal-number-requires
 principal-number-requires c κs = search needs
 
--- src/step.rt:64:9
 wide-requires : tie.Need-wide-requires
 wide-requires c κs = search needs
 
--- src/step.rt:65:9
 wide-requires-2 : tie.Need-wide-requires-2
 wide-requires-2 c κs = search needs
 
--- src/step.rt:66:9
 fetch-requires : tie.Need-fetch-requires
 fetch-requires c κs = search needs
 
--- src/step.rt:67:9
 fetch-requires-2 : tie.Need-fetch-requires-2
 fetch-requires-2 c κs = search needs
 
--- src/step.rt:68:9
 fetch-requires-3 : tie.Need-fetch-requires-3
 fetch-requires-3 c κs = search needs
 
--- src/step.rt:69:9
 fetch-requires-4 : tie.Need-fetch-requires-4
 fetch-requires-4 c κs = search needs
 
--- src/step.rt:71:9
 cut-step-requires : tie.Need-cut-step-requires
 cut-step-requires c κs = search needs
 
--- src/step.rt:71:9
 returns : tie.Need-returns
-returns c = ?
+returns c b q j right-premises is-step premised =
+    let four = c .before .before in
+    let three = four .before in
+    let two = three .before in
+    let one = two .before in
+    let second = one .before in
+    let first = second .before in
+    let p = first .before in
+    cut-refetched j right-premises _ _ (first .wide .ensures) (second .wide2 .ensures)
+    (one .fetch .ensures) (two .fetch2 .ensures) (three .fetch3 .ensures) (four .fetch4 .ensures)
+    (is-cut (entry (q .rule)) (sym is-step ∙ c .before .if1 .taken)) _ (p .principal-number .ensures) _ (c .cut-step .ensures)
 
--- src/step.rt:82:9
 unstable-step-requires : tie.Need-unstable-step-requires
 unstable-step-requires c κs = search needs
 
--- src/step.rt:82:9
 returns-2 : tie.Need-returns-2
-returns-2 c = ?
+returns-2 c b q j right-premises is-step premised =
+    let four = c .before .before .before in
+    let three = four .before in
+    let two = three .before in
+    let one = two .before in
+    let second = one .before in
+    let first = second .before in
+    unstable-refetched j right-premises _ _ (first .wide .ensures) (second .wide2 .ensures)
+    (one .fetch .ensures) (two .fetch2 .ensures) (three .fetch3 .ensures) (four .fetch4 .ensures)
+    (is-unstable (entry (q .rule)) (sym is-step ∙ c .before .if2 .taken)) _ (c .unstable-step .ensures)
 
--- src/step.rt:93:5
 schema-step-requires : tie.Need-schema-step-requires
 schema-step-requires c κs = search needs
 
--- src/step.rt:46:1
 returns-3 : tie.Need-returns-3
-returns-3 c = ?
+returns-3 c b q j right-premises is-step premised =
+    let other = c .before .before in
+    let four = other .before .before in
+    let three = four .before in
+    let two = three .before in
+    let one = two .before in
+    let second = one .before in
+    let first = second .before in
+    let p = first .before in
+    let found = is-schema (entry (q .rule)) premised (λ e. other .before .if1 .left (is-step ∙ e)) (λ e. other .if2 .left (is-step ∙ e)) in
+    schema-refetched j right-premises _ _ (first .wide .ensures) (second .wide2 .ensures)
+    (one .fetch .ensures) (two .fetch2 .ensures) (three .fetch3 .ensures) (four .fetch4 .ensures)
+    (found .0) (found .1) _ (p .principal-number .ensures) _ (c .schema-step .ensures)
 
 pub premised-step-spec : {M : Type 1} → statement M
 premised-step-spec =

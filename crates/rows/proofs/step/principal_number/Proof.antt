@@ -1,34 +1,28 @@
+-- `rows::step::principal_number` meets its contract. Assumes nothing.
+use mathlib.Core.Path.{sym, ap}
 use borrow.Author.Needs.{needs}
+use Rattle.rows.specs.Judging.{principalOf}
 use Rattle.rows.proofs.step.principal_number.Statement.{statement}
 use Rattle.rows.proofs.step.principal_number.Tie as tie
-use Rattle.rows.proofs.step.principal_number.Reads as reads
-use Rattle.rows.proofs.step.principal_number.Lts as lts
 
--- src/step.rt:39:29
 enum-told : tie.Need-enum-told
 enum-told c = search needs
 
--- src/step.rt:40:25
 enum-known-principal : tie.Need-enum-known-principal
 enum-known-principal c = search needs
 
--- src/step.rt:40:31
 cast-result : tie.Need-cast-result
 cast-result c = search needs
 
--- src/step.rt:41:26
 enum-told-2 : tie.Need-enum-told-2
 enum-told-2 c = search needs
 
--- src/step.rt:35:1
 returns : tie.Need-returns
 returns c = search needs
 
--- src/step.rt:35:1
 returns-2 : tie.Need-returns-2
-returns-2 c = ?
+returns-2 c = ap principalOf (sym (c .before .principal .given .1))
 
--- src/step.rt:35:1
 returns-3 : tie.Need-returns-3
 returns-3 c = search needs
 

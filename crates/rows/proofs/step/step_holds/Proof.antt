@@ -1,45 +1,46 @@
+-- `rows::step::step_holds` meets its contract: the number of the rule's entry picks the test. Assumes nothing.
+use mathlib.Core.Path.{sym, _∙_}
+use native.Mathlib.Omega.{arith}
 use borrow.Author.Needs.{needs}
+use Rattle.elk.specs.Rules.{entry}
+use Rattle.rows.proofs.PremiseKinds.{asked-number}
+use Rattle.rows.proofs.Steps.{is-default, is-initial, is-premised, default-decided, initial-decided}
 use Rattle.rows.proofs.step.step_holds.Statement.{statement}
 use Rattle.rows.proofs.step.step_holds.Tie as tie
-use Rattle.rows.proofs.step.step_holds.Reads as reads
-use Rattle.rows.proofs.step.step_holds.Lts as lts
-use Rattle.literals.proofs.default_step.Reads as default-step-reads
-use Rattle.literals.proofs.initial_step.Reads as initial-step-reads
-use Rattle.rows.proofs.step.premised_step.Reads as premised-step-reads
-use Rattle.rows.proofs.step.principal_number.Reads as principal-number-reads
-use Rattle.rules.proofs.rule_number.Reads as rule-number-reads
 
--- src/step.rt:124:9
 rule-number-requires : tie.Need-rule-number-requires
 rule-number-requires c κs = search needs
 
--- src/step.rt:126:39
 principal-number-requires : tie.Need-principal-number-requires
 principal-number-requires c κs = search needs
 
--- src/step.rt:126:9
 default-step-requires : tie.Need-default-step-requires
 default-step-requires c κs = search needs
 
--- src/step.rt:126:9
 returns : tie.Need-returns
-returns c = ?
+returns c b q j right-premises =
+    let asked = c .before .before .before in
+    let step = asked .rule-number .ensures ∙ asked-number j 0 (omega arith) in
+    default-decided j right-premises (is-default (entry (q .rule)) (sym step ∙ c .before .before .if1 .taken)) _ (c .before .principal-number .ensures) _ (c .default-step .ensures)
 
--- src/step.rt:129:9
 initial-step-requires : tie.Need-initial-step-requires
 initial-step-requires c κs = search needs
 
--- src/step.rt:129:9
 returns-2 : tie.Need-returns-2
-returns-2 c = ?
+returns-2 c b q j right-premises =
+    let asked = c .before .before .before in
+    let step = asked .rule-number .ensures ∙ asked-number j 0 (omega arith) in
+    initial-decided j right-premises (is-initial (entry (q .rule)) (sym step ∙ c .before .if2 .taken)) _ (c .initial-step .ensures)
 
--- src/step.rt:131:5
 premised-step-requires : tie.Need-premised-step-requires
 premised-step-requires c κs = search needs
 
--- src/step.rt:108:1
 returns-3 : tie.Need-returns-3
-returns-3 c = ?
+returns-3 c b q j right-premises =
+    let asked = c .before .before .before in
+    let step = asked .rule-number .ensures ∙ asked-number j 0 (omega arith) in
+    c .premised-step .ensures b q j right-premises step
+    (is-premised (entry (q .rule)) (λ e. c .before .before .if1 .left (step ∙ e)) (λ e. c .before .if2 .left (step ∙ e)))
 
 pub step-holds-spec : {M : Type 1} → statement M
 step-holds-spec =
