@@ -1,17 +1,17 @@
 -- Lines of any kind: what is read of one by its kind and the count of its fields, its order, the number that it earns, what a line
 -- that is refused comes to and one that passes, and what the tables hold.
-use Prim.Native.Nat.{ℕ, zero, suc, _+_, _≤_, _<_}
+use Prim.Native.Nat.{ℕ, zero, suc, _+_, _≤_, _<_, min}
 use native.Mathlib.Omega.{arith}
 use mathlib.Core.Path.{_≡_, refl, sym, ap, ap₂, subst, _∙_}
-use mathlib.Core.Bool.{Bool, true, false, not, cond, true≢false, false≢true}
-use mathlib.Core.List.{List, [], _∷_, _++_}
+use mathlib.Core.Bool.{Bool, true, false, not, cond, _&&_, _||_, true≢false, false≢true}
+use mathlib.Core.List.{List, [], _∷_, _++_, List·Memᴰ·head, List·Memᴰ·tail}
 use mathlib.Core.Option.{Option, none, some}
-use lib.Dec.{leb}
+use lib.Dec.{eqb, ltb, leb}
 use lib.ListN.{length, getD, take, drop, length-append, length-take, length-drop}
-use borrow.Author.Tests.{eq-eqb, ne-eqb, leb-true}
+use borrow.Author.Tests.{eq-eqb, ne-eqb, le-leb, lt-leb, leb-true, ltb-true, ltb-false}
 use Rattle.elk.specs.Rules.{Rule}
 use Rattle.format.specs.Text.{Bytes, bytes, _<$>_, _<*>_, onlyIf, fieldsOf, sameList, numberOf, principalOf, listOf}
-use Rattle.format.specs.File.{Row, Stage, File}
+use Rattle.format.specs.File.{Stage, File}
 use Rattle.format.specs.Line.{
   Line,
   atomLine,
@@ -29,22 +29,21 @@ use Rattle.format.specs.Line.{
   ofKind,
   lineOf,
 }
-use Rattle.format.specs.Tables.{padded, joinAll, mostBytes}
+use Rattle.format.specs.Tables.{padded, joinAll, mostOnSide}
 use Rattle.format.specs.Tests.{rank, mayFollow, outOfOrder}
 use Rattle.format.specs.Judged.{Place, Outcome, next, refused, settled, step}
 use Rattle.format.specs.Good.{Good}
 use Rattle.format.proofs.Stepping.{step-bad}
 use Rattle.text.specs.Numbers.{numberAs}
-use Rattle.text.specs.Lists.{listedAs}
+use Rattle.text.specs.Lists.{laidOver, listedAs}
 use Rattle.text.specs.Refusals.{badLine}
 use Rattle.text.specs.declared.numbers.Number.{Number}
 use Rattle.text.specs.declared.lists.Listed.{Listed}
 use Rattle.tables.specs.Records.{written}
 use Rattle.tables.specs.Holding.{HoldsNodes, HoldsRows}
-use Rattle.tables.proofs.Placed.{written-inside}
 use Rattle.tables.proofs.Encoded.{begins-padded, put-encoded}
 use Rattle.rows.specs.Early.{numbered}
-use Rattle.rows.specs.Judgement.{Ground}
+use Rattle.rows.specs.Judgement.{Narrow, Laid, Ground}
 use Rattle.lines.specs.State.{refusedBy, outOfTurn, notNext, Contents, SameLengths, Exactly, Stored, Steps, Keeps}
 use Rattle.lines.specs.Lined.{OfKind, Lined}
 use Rattle.lines.specs.declared.state.State.{State}
@@ -177,7 +176,43 @@ pub is-listed : (o : Option (List ℕ)) {listed : Listed} → listed ≡ listedA
 is-listed none e h = absurd (false≢true (sym (ap (λ (a : Listed). a .well) e) ∙ h))
 is-listed (some xs) e h = (xs, refl, e)
 
+-- a list laid over a table long enough is its first part, where its numbers fit
+laid-part : (xs was : List ℕ) → Narrow xs → length xs ≤ length was → take (length xs) (laidOver xs was) ≡ xs
+unfolding laidOver
+laid-part [] was narrow room = refl
+laid-part (x ∷ xs) [] narrow room = absurd (omega arith)
+laid-part (x ∷ xs) (o ∷ was) narrow room =
+    let small : min x 65535 ≡ x = omega (arith, narrow x (List·Memᴰ·head refl)) in
+    ap₂ (λ (y : ℕ) (ys : List ℕ). y ∷ ys) small (laid-part xs was (λ y m. narrow y (List·Memᴰ·tail m)) (omega arith))
+
+pub list-laid : {xs table : List ℕ} {listed : Listed} (was : List ℕ) → listed ≡ listedAs (some xs) → table ≡ laidOver xs was → mostOnSide ≤ length was
+    → Laid xs listed table
+list-laid {xs} was answer stored room =
+    record { answer = answer; front = λ short narrow. ap (take (length xs)) stored ∙ laid-part xs was narrow (omega arith) }
+
 -- ---- the order of lines
+
+module _ (stage coming : ℕ) where
+  pub turn-back : coming < stage → true ≡ outOfTurn stage coming
+  unfolding outOfTurn
+  turn-back h = sym (ap (λ (b : Bool). not (b && ltb stage 3)) (lt-leb stage coming h))
+
+  pub turn-last : stage ≤ coming → leb 3 stage ≡ outOfTurn stage coming
+  unfolding outOfTurn
+  turn-last h = sym (ap (λ (b : Bool). not (b && ltb stage 3)) (le-leb stage coming h) ∙ by-test (ltb stage 3) refl)
+    where
+      by-test : (b : Bool) → ltb stage 3 ≡ b → not b ≡ leb 3 stage
+      by-test true e = sym (lt-leb 3 stage (ltb-true stage 3 e))
+      by-test false e = sym (le-leb 3 stage (ltb-false stage 3 e))
+
+  module _ (held number : ℕ) where
+    pub order-turn : outOfTurn stage coming ≡ true → true ≡ notNext stage coming held number
+    unfolding notNext
+    order-turn e = sym (ap (λ (b : Bool). b || not (eqb number held)) e)
+
+    pub order-number : outOfTurn stage coming ≡ false → not (eqb number held) ≡ notNext stage coming held number
+    unfolding notNext
+    order-number e = sym (ap (λ (b : Bool). b || not (eqb number held)) e)
 
 pub turn-same : {stage : ℕ} (s t : Stage) → stage ≡ rank s → outOfTurn stage (rank t) ≡ not (mayFollow s t)
 unfolding outOfTurn

@@ -178,8 +178,8 @@ laid-at (x ∷ xs) (o ∷ was) zero narrow room = omega (arith, narrow x (List·
 laid-at (x ∷ xs) (o ∷ was) (suc i) narrow room = laid-at xs was i (λ y m. narrow y (List·Memᴰ·tail m)) (omega arith)
 
 -- a list that was read into a table with room for a side
-pub list-laid : {xs was table : List ℕ} {listed : Listed} → listed ≡ listedAs (some xs) → table ≡ laidOver xs was → mostOnSide ≤ length was → Laid xs listed table
-list-laid {xs} {was} answer stored room =
+pub list-laid : (xs was : List ℕ) {table : List ℕ} {listed : Listed} → listed ≡ listedAs (some xs) → table ≡ laidOver xs was → mostOnSide ≤ length was → Laid xs listed table
+list-laid xs was answer stored room =
     record { answer = answer; front = λ short narrow. ap (take (length xs)) stored ∙ laid-part xs was narrow (omega arith) }
 
 -- ---- a line whose kind is N
@@ -187,19 +187,26 @@ list-laid {xs} {was} answer stored room =
 module _ (line : Bytes) (kind : OfKind "N" line) (counted : length (fieldsOf line) ≡ 7) {above l r above′ l′ r′ : List ℕ} {row : RowRead}
     (i : RowInto (fieldsOf line) above l r above′ l′ r′ row) where
   pub row-unread : wellOf row ≡ false → lineOf line ≡ none
-  row-unread h = line-row line kind counted ∙ badly-written _ _ _ _ _ _ (ap wellOf (sym (i .answer)) ∙ h)
+  row-unread h =
+      let fs = fieldsOf line in
+      line-row line kind counted
+      ∙ badly-written (numberOf (getD fs 1 [])) (ruleOf (getD fs 2 [])) (principalOf (getD fs 3 []))
+      (listOf (getD fs 4 [])) (listOf (getD fs 5 [])) (listOf (getD fs 6 [])) (ap wellOf (sym (i .answer)) ∙ h)
 
   pub row-found : wellOf row ≡ true → above ≡ absent ∷ absent ∷ [] → mostOnSide ≤ length l → mostOnSide ≤ length r
       → (n : ℕ) × (q : Row) × (lineOf line ≡ some (rowLine n q)) × RowLaid n q row above′ l′ r′
   row-found h lent left-room right-room =
-      let w = well-written _ _ _ _ _ _ (ap wellOf (sym (i .answer)) ∙ h) in
+      let fs = fieldsOf line in
+      let w =
+      well-written (numberOf (getD fs 1 [])) (ruleOf (getD fs 2 [])) (principalOf (getD fs 3 [])) (listOf (getD fs 4 []))
+      (listOf (getD fs 5 [])) (listOf (getD fs 6 [])) (ap wellOf (sym (i .answer)) ∙ h) in
       let read : row ≡ rowRead (w .own) (w .row) = i .answer ∙ w .read in
       let laid : RowLaid (w .own) (w .row) row above′ l′ r′ =
       record {
         read = read;
         premises = i .premises-stored (w .row .premises) (w .premises-listed) ∙ ap (laidOver (w .row .premises)) lent;
-        left-laid = list-laid (ap (λ (z : RowRead). z .left) read) (i .left-stored (w .row .left) (w .left-listed)) left-room;
-        right-laid = list-laid (ap (λ (z : RowRead). z .right) read) (i .right-stored (w .row .right) (w .right-listed)) right-room;
+        left-laid = list-laid (w .row .left) l (ap (λ (z : RowRead). z .left) read) (i .left-stored (w .row .left) (w .left-listed)) left-room;
+        right-laid = list-laid (w .row .right) r (ap (λ (z : RowRead). z .right) read) (i .right-stored (w .row .right) (w .right-listed)) right-room;
       } in
       (w .own, w .row, line-row line kind counted ∙ w .line, laid)
 
@@ -224,7 +231,7 @@ row-drafted {n} {q} {row} {above} {l} {r} h {d} {one} {two} is-one is-two e =
 
 -- ---- a row that is well written
 
-module _ {text : Bytes} (line : Bytes) {start number n : ℕ} {q : Row} {row : RowRead} {s : State} {above l r : List ℕ}
+module _ (text line : Bytes) (start number : ℕ) (s : State) {n : ℕ} {q : Row} {row : RowRead} {above l r : List ℕ}
     (well : lineOf line ≡ some (rowLine n q)) (h : RowLaid n q row above l r) where
   -- number 4
   order-asked : {f : File} {t : Contents} → Stored text f s t → otherIn (row .number) s ≡ outOfOrder (f .stage) in-rows (length (f .body .rows)) n
@@ -388,7 +395,7 @@ module _ (row : RowRead) (number : ℕ) (above l r formulas words : List ℕ) (s
   pub settled-misplaced : otherIn (row .number) s ≡ true → stepped ≡ refusedBy s 4 number → RowSettled row number above l r formulas words s stepped rows left right rows left right
   settled-misplaced other given =
       record {
-        lined = λ text line start n q t well h. row-misplaced line well h (withRows t formulas words rows left right) other given;
+        lined = λ text line start n q t well h. row-misplaced text line start number s well h (withRows t formulas words rows left right) other given;
         keeps = λ t. keeps-refused (withRows t formulas words rows left right) given;
       }
 
@@ -397,7 +404,7 @@ module _ (row : RowRead) (number : ℕ) (above l r formulas words : List ℕ) (s
     pub settled-refused : (k ≡ 0 → ⊥) → stepped ≡ refusedBy s k number → RowSettled row number above l r formulas words s stepped rows left right rows left right
     settled-refused some-number given =
         record {
-          lined = λ text line start n q t well h. row-refused line well h next-one (row-drafted h is-one is-two is-draft) numbers t some-number given;
+          lined = λ text line start n q t well h. row-refused text line start number s well h next-one (row-drafted h is-one is-two is-draft) numbers t some-number given;
           keeps = λ t. keeps-refused (withRows t formulas words rows left right) given;
         }
 
@@ -418,6 +425,6 @@ module _ (row : RowRead) (number : ℕ) (above l r formulas words : List ℕ) (s
             → p .start ≡ start → p .line ≡ number → Steps text (step f p line) stepped (withRows t formulas words rows′ left′ right′)
         steps-stored text line start n q t well h f p done good stored size placed at =
             let drafted = row-drafted h is-one is-two is-draft in
-            steps-next stepped (withRow f q) (steps line well h next-one drafted numbers passed w p t good stored) (ap (λ (z : Stepped). z .number) given) (
+            steps-next stepped (withRow f q) (steps text line start number s well h next-one drafted numbers passed w p t good stored) (ap (λ (z : Stepped). z .number) given) (
             subst (λ (z : Stepped). Stored text (withRow f q) (z .state) (withRows t formulas words rows′ left′ right′)) (sym given) (
-            row-stored line well h next-one drafted numbers passed w p t good stored is-counts))
+            row-stored text line start number s well h next-one drafted numbers passed w p t good stored is-counts))

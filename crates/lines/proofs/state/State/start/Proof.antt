@@ -1,0 +1,15 @@
+-- `lines::state::State::start` meets its contract. Assumes nothing.
+use mathlib.Core.Path.{ap}
+use borrow.Author.Needs.{needs}
+use Rattle.tables.specs.declared.counts.Counts.{Counts}
+use Rattle.lines.proofs.state.State.start.Statement.{statement}
+use Rattle.lines.proofs.state.State.start.Tie as tie
+
+none-requires : tie.Need-none-requires
+none-requires c κs = search needs
+
+returns : tie.Need-returns
+returns c = ap (λ (n : Counts). record { counts = n; stage = 0; claim = 0 }) (c .none .ensures)
+
+pub start-spec : {M : Type 1} → statement M
+start-spec = tie.close (tie.spec none-requires returns)
