@@ -4,3 +4,4 @@ mod AtomLines
 mod FormulaLines
 mod RowLines
 mod ClaimLines
+mod Dispatch

@@ -5,12 +5,12 @@ use mathlib.Core.Path.{_≡_, refl, sym, ap, ap₂, subst, _∙_}
 use mathlib.Core.Bool.{Bool, true, false, not, cond, _&&_, true≢false, false≢true}
 use mathlib.Core.List.{List, [], _∷_, _++_, List·Memᴰ·head, List·Memᴰ·tail}
 use mathlib.Core.Option.{Option, none, some}
-use lib.Dec.{eqb}
+use lib.Dec.{eqb, ltb}
 use lib.ListN.{length, getD, take, length-append}
 use borrow.Author.Tests.{ne-eqb, leb-false, ltb-false}
 use Rattle.equilibrium.specs.Meaning.{_∈_}
 use Rattle.elk.specs.Rules.{Rule, codeOf}
-use Rattle.format.specs.Text.{Bytes, fieldsOf, numberOf, principalOf, listOf}
+use Rattle.format.specs.Text.{Bytes, fieldsOf, numberOf, principalOf, listOf, strictlyRising}
 use Rattle.format.specs.File.{Row, in-rows, File, addRow}
 use Rattle.format.specs.Line.{rowLine, ruleOf, makeRow, lineOf}
 use Rattle.format.specs.Tables.{
@@ -22,8 +22,7 @@ use Rattle.format.specs.Tables.{
   rowWidth,
   rowRecord,
   rowRecords,
-  mostRows,
-  mostEntries,
+  mostBytes,
   mostOnSide,
   padded,
 }
@@ -66,6 +65,7 @@ use Rattle.lines.specs.RowLines.{
   RowStored,
   withRows,
   RowLaid,
+  RowSettled,
 }
 use Rattle.lines.specs.declared.state.State.{State}
 use Rattle.lines.specs.declared.state.Stepped.{Stepped}
@@ -83,6 +83,7 @@ use Rattle.lines.proofs.LineLaws.{
   written-length,
   put-exactly,
   ground,
+  list-laid,
 }
 
 -- ---- the fields
@@ -160,15 +161,6 @@ badly-written (some n) (some s) (some o) premises left right h = lists-bad n s o
 
 -- ---- lists as they were stored
 
--- a list that is laid over a table long enough is its first part, where its numbers fit
-laid-part : (xs was : List ℕ) → Narrow xs → length xs ≤ length was → take (length xs) (laidOver xs was) ≡ xs
-unfolding laidOver
-laid-part [] was narrow room = refl
-laid-part (x ∷ xs) [] narrow room = absurd (omega arith)
-laid-part (x ∷ xs) (o ∷ was) narrow room =
-    let small : min x 65535 ≡ x = omega (arith, narrow x (List·Memᴰ·head refl)) in
-    ap₂ (λ (y : ℕ) (ys : List ℕ). y ∷ ys) small (laid-part xs was (λ y m. narrow y (List·Memᴰ·tail m)) (omega arith))
-
 -- a number there, where it lies inside
 laid-at : (xs was : List ℕ) (i : ℕ) → Narrow xs → i < length was → getD (laidOver xs was) i 0 ≡ getD xs i (getD was i 0)
 unfolding laidOver
@@ -176,11 +168,6 @@ laid-at [] was i narrow room = refl
 laid-at (x ∷ xs) [] i narrow room = absurd (omega arith)
 laid-at (x ∷ xs) (o ∷ was) zero narrow room = omega (arith, narrow x (List·Memᴰ·head refl))
 laid-at (x ∷ xs) (o ∷ was) (suc i) narrow room = laid-at xs was i (λ y m. narrow y (List·Memᴰ·tail m)) (omega arith)
-
--- a list that was read into a table with room for a side
-pub list-laid : (xs was : List ℕ) {table : List ℕ} {listed : Listed} → listed ≡ listedAs (some xs) → table ≡ laidOver xs was → mostOnSide ≤ length was → Laid xs listed table
-list-laid xs was answer stored room =
-    record { answer = answer; front = λ short narrow. ap (take (length xs)) stored ∙ laid-part xs was narrow (omega arith) }
 
 -- ---- a line whose kind is N
 
@@ -205,8 +192,8 @@ module _ (line : Bytes) (kind : OfKind "N" line) (counted : length (fieldsOf lin
       record {
         read = read;
         premises = i .premises-stored (w .row .premises) (w .premises-listed) ∙ ap (laidOver (w .row .premises)) lent;
-        left-laid = list-laid (w .row .left) l (ap (λ (z : RowRead). z .left) read) (i .left-stored (w .row .left) (w .left-listed)) left-room;
-        right-laid = list-laid (w .row .right) r (ap (λ (z : RowRead). z .right) read) (i .right-stored (w .row .right) (w .right-listed)) right-room;
+        left-laid = list-laid l (ap (λ (z : RowRead). z .left) read) (i .left-stored (w .row .left) (w .left-listed)) left-room;
+        right-laid = list-laid r (ap (λ (z : RowRead). z .right) read) (i .right-stored (w .row .right) (w .right-listed)) right-room;
       } in
       (w .own, w .row, line-row line kind counted ∙ w .line, laid)
 
@@ -279,7 +266,7 @@ module _ (text line : Bytes) (start number : ℕ) (s : State) {n : ℕ} {q : Row
           → take (listed .count) table ≡ side
       short side {listed} {table} laid good-side known =
           ap (λ (z : Listed). take (z .count) table) (laid .answer)
-          ∙ laid .front (ltb-false mostOnSide (length side) (or-false _ _ good-side .1)) (λ x m. omega (arith, known-earlier (f .body) side known x m, good-held (good .body) .few-nodes))
+          ∙ laid .front (ltb-false mostOnSide (length side) (or-false (not (strictlyRising side)) (ltb mostOnSide (length side)) good-side .1)) (λ x m. omega (arith, known-earlier (f .body) side known x m, good-held (good .body) .few-nodes))
 
       left-is : take (d .left .count) l ≡ q .left
       left-is = short (q .left) (drafted .left-laid) (fits .left-good) (fits .left-known)

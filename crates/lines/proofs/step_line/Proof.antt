@@ -1,156 +1,127 @@
+-- `lines::step_line` meets its contract: the kind of the line picks the function that judges it. Assumes nothing.
+use native.Mathlib.Omega.{arith}
+use mathlib.Core.List.{[]}
 use borrow.Author.Needs.{needs}
+use Rattle.text.specs.declared.words.Kind.the-variants.{Atom, Formula, Row, Claim, Unknown}
+use Rattle.lines.specs.State.{tables}
+use Rattle.lines.proofs.Dispatch.{kind-is, stepped-outside, stepped, stepped-unknown}
 use Rattle.lines.proofs.step_line.Statement.{statement}
 use Rattle.lines.proofs.step_line.Tie as tie
-use Rattle.lines.proofs.step_line.Reads as reads
-use Rattle.lines.proofs.step_line.Lts as lts
-use Rattle.lines.proofs.atom.atom_line.Reads as atom-line-reads
-use Rattle.lines.proofs.claim.claim_line.Reads as claim-line-reads
-use Rattle.lines.proofs.formula.formula_line.Reads as formula-line-reads
-use Rattle.lines.proofs.row.row_line.Reads as row-line-reads
-use Rattle.lines.proofs.state.State.refused.Reads as refused-reads
-use Rattle.text.proofs.parts.field.Reads as field-reads
-use Rattle.text.proofs.parts.read_fields.Reads as read-fields-reads
-use Rattle.text.proofs.words.line_kind.Reads as line-kind-reads
 
--- src/lib.rt:43:9
 refused-requires : tie.Need-refused-requires
 refused-requires c κs = search needs
 
--- src/lib.rt:43:9
 returns : tie.Need-returns
-returns c = ?
+returns c = stepped-outside _ _ _ _ _ _ _ (λ h. let within = h .1 in omega arith) (c .refused .ensures)
 
--- src/lib.rt:46:9
 refused-requires-2 : tie.Need-refused-requires-2
 refused-requires-2 c κs = search needs
 
--- src/lib.rt:46:9
 returns-2 : tie.Need-returns-2
-returns-2 c = ?
+returns-2 c = stepped-outside _ _ _ _ _ _ _ (λ h. let ordered = h .0 in omega arith) (c .refused2 .ensures)
 
--- src/lib.rt:48:16
 part-line-start : tie.Need-part-line-start
 part-line-start c = search needs
 
--- src/lib.rt:48:16
 part-line-end : tie.Need-part-line-end
 part-line-end c = search needs
 
--- src/lib.rt:49:9
 read-fields-requires : tie.Need-read-fields-requires
 read-fields-requires c κs = search needs
 
--- src/lib.rt:50:26
 field-requires : tie.Need-field-requires
 field-requires c κs = search needs
 
--- src/lib.rt:50:9
 line-kind-requires : tie.Need-line-kind-requires
 line-kind-requires c κs = search needs
 
--- src/lib.rt:52:67
 enum-told : tie.Need-enum-told
 enum-told c = search needs
 
--- src/lib.rt:52:23
 atom-line-requires : tie.Need-atom-line-requires
-atom-line-requires c κs = ?
+atom-line-requires c κs =
+    let read = c .before .before .before in
+    (omega arith, omega arith, read .before .before .read-fields .ensures, kind-is _ Atom (read .before .before .read-fields .ensures) (read .before .field .ensures) (read .line-kind .ensures) (c .before .enum-told .given .1))
 
--- src/lib.rt:53:61
 enum-told-2 : tie.Need-enum-told-2
 enum-told-2 c = search needs
 
--- src/lib.rt:53:26
 formula-line-requires : tie.Need-formula-line-requires
-formula-line-requires c κs = ?
+formula-line-requires c κs =
+    let read = c .before .before .before .before in
+    (read .before .before .read-fields .ensures, kind-is _ Formula (read .before .before .read-fields .ensures) (read .before .field .ensures) (read .line-kind .ensures) (c .before .before .enum-told2 .given .1))
 
--- src/lib.rt:58:13
 enum-told-3 : tie.Need-enum-told-3
 enum-told-3 c = search needs
 
--- src/lib.rt:54:22
 row-line-requires : tie.Need-row-line-requires
-row-line-requires c κs = ?
+row-line-requires c κs =
+    let read = c .before .before .before .before .before .before .before in
+    (read .before .before .read-fields .ensures, kind-is _ Row (read .before .before .read-fields .ensures) (read .before .field .ensures) (read .line-kind .ensures) (c .before .before .before .before .before .enum-told3 .given .1))
 
--- src/lib.rt:65:57
 enum-told-4 : tie.Need-enum-told-4
 enum-told-4 c = search needs
 
--- src/lib.rt:65:24
 claim-line-requires : tie.Need-claim-line-requires
-claim-line-requires c κs = ?
+claim-line-requires c κs =
+    let read = c .before .before .before .before .before in
+    (read .before .before .read-fields .ensures, kind-is _ Claim (read .before .before .read-fields .ensures) (read .before .field .ensures) (read .line-kind .ensures) (c .before .before .before .enum-told4 .given .1))
 
--- src/lib.rt:66:26
 enum-told-5 : tie.Need-enum-told-5
 enum-told-5 c = search needs
 
--- src/lib.rt:66:26
 refused-requires-3 : tie.Need-refused-requires-3
 refused-requires-3 c κs = search needs
 
--- src/lib.rt:25:1
 same-length : tie.Need-same-length
 same-length c = search needs
 
--- src/lib.rt:25:1
 returns-3 : tie.Need-returns-3
-returns-3 c = ?
+returns-3 c = stepped _ _ _ _ _ _ (omega arith) (omega arith) _ _ (c .before .before .atom-line .ensures (tables [] _ _ _ _ _))
 
--- src/lib.rt:25:1
 same-length-2 : tie.Need-same-length-2
 same-length-2 c = search needs
 
--- src/lib.rt:25:1
 same-length-3 : tie.Need-same-length-3
 same-length-3 c = search needs
 
--- src/lib.rt:25:1
 returns-4 : tie.Need-returns-4
-returns-4 c = ?
+returns-4 c = stepped _ _ _ _ _ _ (omega arith) (omega arith) _ _ (c .before .before .before .before .formula-line .ensures _ _ (tables _ [] [] _ _ _))
 
--- src/lib.rt:25:1
 same-length-4 : tie.Need-same-length-4
 same-length-4 c = search needs
 
--- src/lib.rt:25:1
 same-length-5 : tie.Need-same-length-5
 same-length-5 c = search needs
 
--- src/lib.rt:25:1
 same-length-6 : tie.Need-same-length-6
 same-length-6 c = search needs
 
--- src/lib.rt:25:1
 same-length-7 : tie.Need-same-length-7
 same-length-7 c = search needs
 
--- src/lib.rt:25:1
 same-length-8 : tie.Need-same-length-8
 same-length-8 c = search needs
 
--- src/lib.rt:25:1
 returns-5 : tie.Need-returns-5
-returns-5 c = ?
+returns-5 c = stepped _ _ _ _ _ _ (omega arith) (omega arith) _ _ (c .before .before .before .before .before .before .row-line .ensures _ _ (tables _ [] [] [] [] []))
 
--- src/lib.rt:25:1
 same-length-9 : tie.Need-same-length-9
 same-length-9 c = search needs
 
--- src/lib.rt:25:1
 same-length-10 : tie.Need-same-length-10
 same-length-10 c = search needs
 
--- src/lib.rt:25:1
 same-length-11 : tie.Need-same-length-11
 same-length-11 c = search needs
 
--- src/lib.rt:25:1
 returns-6 : tie.Need-returns-6
-returns-6 c = ?
+returns-6 c = stepped _ _ _ _ _ _ (omega arith) (omega arith) _ _ (c .claim-line .ensures _ _ (tables _ _ _ [] [] []))
 
--- src/lib.rt:25:1
 returns-7 : tie.Need-returns-7
-returns-7 c = ?
+returns-7 c =
+    let read = c .before .before .before in
+    stepped-unknown _ _ _ _ _ _ (omega arith) (omega arith) _ (kind-is _ Unknown (read .before .before .read-fields .ensures) (read .before .field .ensures) (read .line-kind .ensures) (c .before .enum-told5 .given .1)) (c .refused3 .ensures)
 
 pub step-line-spec : {M : Type 1} → statement M
 step-line-spec =

@@ -1,0 +1,69 @@
+-- The kind of a line by its first field, and what each kind's function says of the line.
+use Prim.Native.Nat.{ℕ, _≤_}
+use native.Mathlib.Omega.{arith}
+use mathlib.Core.Path.{_≡_, refl, sym, subst, _∙_}
+use mathlib.Core.Bool.{Bool, true, false, cond}
+use mathlib.Core.List.{List, [], _∷_}
+use mathlib.Core.Option.{none}
+use lib.ListN.{length, getD}
+use Rattle.format.specs.Text.{Bytes, bytes, fieldsOf, is}
+use Rattle.format.specs.Line.{lineOf, ofKind}
+use Rattle.format.proofs.Booleans.{same-list}
+use Rattle.text.specs.Parts.{between, Fielded, FieldPart}
+use Rattle.text.specs.Refusals.{badLine}
+use Rattle.text.specs.Words.{kindOf, KindRead}
+use Rattle.text.specs.declared.words.Kind.{Kind}
+use Rattle.text.specs.declared.words.Kind.the-variants.{Atom, Formula, Row, Claim, Unknown}
+use Rattle.text.specs.declared.parts.Fields.{Fields}
+use Rattle.lines.specs.State.{refusedBy, Contents}
+use Rattle.lines.specs.Lined.{Lined}
+use Rattle.lines.specs.Stepping.{LineStepped}
+use Rattle.lines.specs.declared.state.State.{State}
+use Rattle.lines.specs.declared.state.Stepped.{Stepped}
+use Rattle.lines.proofs.LineLaws.{line-bad}
+
+-- what a kind says of the field that names it
+abbrev Named : Kind → Bytes → Type 0
+Named Atom field = field ≡ bytes "A"
+Named Formula field = field ≡ bytes "F"
+Named Row field = field ≡ bytes "N"
+Named Claim field = field ≡ bytes "C"
+Named Unknown field = (is "A" field ≡ false) × (is "F" field ≡ false) × (is "N" field ≡ false) × (is "C" field ≡ false)
+
+named : (field : Bytes) → Named (kindOf field) field
+unfolding kindOf
+named field = cases (is "A" field) (is "F" field) (is "N" field) (is "C" field) refl refl refl refl
+  where
+    cases : (a b c d : Bool) → is "A" field ≡ a → is "F" field ≡ b → is "N" field ≡ c → is "C" field ≡ d
+        → Named (cond a Atom (cond b Formula (cond c Row (cond d Claim Unknown)))) field
+    cases true b c d i j k l = same-list field (bytes "A") i
+    cases false true c d i j k l = same-list field (bytes "F") j
+    cases false false true d i j k l = same-list field (bytes "N") k
+    cases false false false true i j k l = same-list field (bytes "C") l
+    cases false false false false i j k l = (i, j, k, l)
+
+unknown-fields : (fs : List Bytes) → Named Unknown (getD fs 0 []) → ofKind fs ≡ none
+unknown-fields [] e = refl
+unknown-fields (kind ∷ fs) e = simp (e .0, e .1, e .2, e .3)
+
+unknown-line : (line : Bytes) → Named Unknown (getD (fieldsOf line) 0 []) → lineOf line ≡ none
+unfolding lineOf
+unknown-line line e = unknown-fields (fieldsOf line) e
+
+-- the kind that was read names the line's first field
+pub kind-is : (line : Bytes) {fields : Fields} {first : Bytes} {read : Kind} (kind : Kind) → Fielded line fields → FieldPart line fields 0 first
+    → KindRead first read → read ≡ kind → Named kind (getD (fieldsOf line) 0 [])
+kind-is line {first = first} kind fielded part found told =
+    subst (Named kind) (part .field fielded (omega arith)) (subst (λ (k : Kind). Named k first) (sym (found .answer) ∙ told) (named first))
+
+module _ (text : Bytes) (start end number : ℕ) (s : State) (r : Stepped) where
+  pub stepped-outside : (t : Contents) → ((start ≤ end) × (end ≤ length text) → ⊥) → r ≡ refusedBy s badLine number → LineStepped text start end number s r t t
+  stepped-outside t h given = record { inside = λ a b. absurd (h (a, b)); outside = λ _. (given, refl) }
+
+  module _ (ordered : start ≤ end) (within : end ≤ length text) where
+    pub stepped : (t u : Contents) → Lined text start (between text start end) number s r t u → LineStepped text start end number s r t u
+    stepped t u lined = record { inside = λ a b. lined; outside = λ h. absurd (h (ordered, within)) }
+
+    pub stepped-unknown : (t : Contents) → Named Unknown (getD (fieldsOf (between text start end)) 0 []) → r ≡ refusedBy s badLine number
+        → LineStepped text start end number s r t t
+    stepped-unknown t e given = stepped t t (line-bad t (unknown-line (between text start end) e) given)
