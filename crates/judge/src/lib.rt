@@ -3,15 +3,24 @@
 ghost use mathlib.Core.Path.{_≡_};
 ghost use mathlib.Core.Bool.{false};
 ghost use mathlib.Core.Logic.{_⊎_};
-ghost use Prim.Native.Nat.{_≤_, _<_};
+ghost use Prim.Native.Nat.{_≤_};
 ghost use lib.ListN.{length, replicate};
-ghost use Rattle.format.specs.Tables.{tooShort};
-ghost use Rattle.lines.specs.State.{Full};
-ghost use Rattle.judge.specs.Contract.{Judges, Checks, Accepts, Refuses, Zeros};
-ghost use Rattle.judge.specs.Running.{Running, Advances};
-use lines::state::Counts;
+ghost use Rattle.format.specs.Tables.{tooShort, mostBytes};
+ghost use Rattle.lines.specs.State.{Contents, Full, tables};
+ghost use Rattle.judge.specs.Contract.{five, lengths, Judges, Checks, Accepts, Refuses, Zeros};
+ghost use Rattle.judge.specs.Running.{Runs};
+use lines::state::CLAIMED;
+use lines::state::State;
 use lines::step_line;
 use tables::clear;
+use tables::limits::MOST_ATOMS;
+use tables::limits::MOST_BYTES;
+use tables::limits::MOST_ENTRIES;
+use tables::limits::MOST_FORMULAS;
+use tables::limits::MOST_ROWS;
+use tables::limits::NAME_WIDTH;
+use tables::limits::NODE_WIDTH;
+use tables::limits::ROW_WIDTH;
 use text::parts::find;
 use text::refusals::BAD_LINE;
 
@@ -22,74 +31,17 @@ pub struct Answer {
     pub line: u32,
 }
 
-fn nothing() -> Counts
-    ensures { λ r. ⌜ r ≡ record { atoms = 0; formulas = 0; rows = 0; left = 0; right = 0; stage = 0; claim = 0 } ⌝ }
-{
-    Counts {
-        atoms: 0,
-        formulas: 0,
-        rows: 0,
-        left: 0,
-        right: 0,
-        stage: 0,
-        claim: 0,
-    }
-}
-
-// What one line comes to: 0 with the place and the counts after it, or its refusal number.
-pub struct Advanced {
+// What the complete lines come to: 0 with the line and the place after the last one and the state there, or the number of the
+// first line that is refused and the line that it belongs to.
+pub struct Ran {
     pub number: u32,
-    pub next: usize,
-    pub counts: Counts,
+    pub line: u32,
+    pub at: usize,
+    pub state: State,
 }
 
-// The line at a place of the text. Without a line feed to its end it is a bad line.
-fn advance(
-    text: &[u8],
-    line: u32,
-    at: usize,
-    names: &mut [u16],
-    formulas: &mut [u16],
-    words: &mut [u64],
-    rows: &mut [u16],
-    left: &mut [u16],
-    right: &mut [u16],
-    counts: Counts,
-) -> Advanced
-    requires { ⌜ (at < length (now text)) × (length (now text) ≤ 65536) ⌝ }
-    ensures { λ r. ⌜ (Running (now (text .entry)) line at counts (record { names = now (names .entry); formulas = now (formulas .entry); words = now (words .entry); rows = now (rows .entry); left = now (left .entry); right = now (right .entry) }) → Advances (now (text .entry)) line at r (record { names = now (names .exit); formulas = now (formulas .exit); words = now (words .exit); rows = now (rows .exit); left = now (left .exit); right = now (right .exit) })) ⌝ }
-{
-    let end = find(text, at, 10);
-    if end >= text.len() {
-        return Advanced {
-            number: BAD_LINE,
-            next: at,
-            counts,
-        };
-    }
-    let stepped = step_line(
-        text,
-        at,
-        end,
-        line,
-        names,
-        formulas,
-        words,
-        rows,
-        left,
-        right,
-        counts,
-    );
-    let number = stepped.number;
-    let after = stepped.counts;
-    Advanced {
-        number,
-        next: end + 1,
-        counts: after,
-    }
-}
-
-// All lines of a text of at most 65,536 bytes, into clear tables of full length, with clear words for what is known of the formulas.
+// The complete lines of a text of at most 65,536 bytes, into clear tables of full length, with clear words for what is known of
+// the formulas.
 fn run(
     text: &[u8],
     names: &mut [u16],
@@ -98,41 +50,80 @@ fn run(
     rows: &mut [u16],
     left: &mut [u16],
     right: &mut [u16],
-) -> Answer
-    requires { ⌜ (length (now text) ≤ 65536) × Full (record { names = now names; formulas = now formulas; words = now words; rows = now rows; left = now left; right = now right }) × Zeros (now names) (now formulas) (now rows) (now left) (now right) × (now words ≡ replicate (length (now words)) 0) ⌝ }
-    ensures { λ r. ⌜ Accepts (now (text .entry)) (now (names .exit)) (now (formulas .exit)) (now (rows .exit)) (now (left .exit)) (now (right .exit)) r ⊎ Refuses (now (text .entry)) r ⌝ }
+) -> Ran
+    requires { ⌜ (length (now text) ≤ mostBytes)
+        × Full (tables (now names) (now formulas) (now words) (now rows) (now left) (now right))
+        × Zeros (five (now names) (now formulas) (now rows) (now left) (now right))
+        × (now words ≡ replicate (length (now words)) 0) ⌝ }
+    ensures { λ r. ⌜ Runs (now (text .entry)) r
+        (tables (now (names .exit)) (now (formulas .exit)) (now (words .exit)) (now (rows .exit)) (now (left .exit)) (now (right .exit))) ⌝ }
 {
-    let mut counts = nothing();
+    let mut state = State::start();
     let mut at: usize = 0;
     let mut line: u32 = 1;
-    while at < text.len() {
-        let passed = advance(
+    let mut end = find(text, 0, b'\n');
+    while end < text.len() {
+        let stepped = step_line(
             text,
-            line,
             at,
+            end,
+            line,
             names,
             formulas,
             words,
             rows,
             left,
             right,
-            counts,
+            state,
         );
-        let number = passed.number;
-        if number != 0 {
-            return Answer { number, line };
+        let after = stepped.state;
+        if stepped.number != 0 {
+            return Ran {
+                number: stepped.number,
+                line: stepped.line,
+                at,
+                state: after,
+            };
         }
-        counts = passed.counts;
-        at = passed.next;
+        state = after;
+        at = end + 1;
         line += 1;
+        end = find(text, at, b'\n');
     }
-    let stage = counts.stage;
-    if stage != 3 {
-        return Answer { number: 13, line };
+    Ran {
+        number: 0,
+        line,
+        at,
+        state,
+    }
+}
+
+// The answer after the complete lines: bytes with no line feed are a bad line, and then a claim may be missing.
+fn finish(text: &[u8], ran: Ran) -> Answer
+    ensures { λ r. ⌜ ((t : Contents) → Runs (now (text .entry)) ran t
+        → Accepts (now (text .entry)) (five (t .names) (t .formulas) (t .rows) (t .left) (t .right)) r ⊎ Refuses (now (text .entry)) r) ⌝ }
+{
+    if ran.number != 0 {
+        return Answer {
+            number: ran.number,
+            line: ran.line,
+        };
+    }
+    if ran.at < text.len() {
+        return Answer {
+            number: BAD_LINE,
+            line: ran.line,
+        };
+    }
+    if ran.state.stage != CLAIMED {
+        return Answer {
+            number: 13,
+            line: ran.line,
+        };
     }
     Answer {
         number: 0,
-        line: counts.claim,
+        line: ran.state.claim,
     }
 }
 
@@ -140,19 +131,19 @@ fn run(
 fn too_short(names: usize, formulas: usize, rows: usize, left: usize, right: usize) -> bool
     ensures { λ r. ⌜ r ≡ tooShort (record { names = names; formulas = formulas; rows = rows; left = left; right = right }) ⌝ }
 {
-    if names < 128 {
+    if names < NAME_WIDTH * MOST_ATOMS {
         return true;
     }
-    if formulas < 3072 {
+    if formulas < NODE_WIDTH * MOST_FORMULAS {
         return true;
     }
-    if rows < 16384 {
+    if rows < ROW_WIDTH * MOST_ROWS {
         return true;
     }
-    if left < 16384 {
+    if left < MOST_ENTRIES {
         return true;
     }
-    right < 16384
+    right < MOST_ENTRIES
 }
 
 fn clear_all(
@@ -162,7 +153,7 @@ fn clear_all(
     left: &mut [u16],
     right: &mut [u16],
 )
-    ensures { λ _. ⌜ Zeros (now (names .exit)) (now (formulas .exit)) (now (rows .exit)) (now (left .exit)) (now (right .exit)) ⌝ }
+    ensures { λ _. ⌜ Zeros (five (now (names .exit)) (now (formulas .exit)) (now (rows .exit)) (now (left .exit)) (now (right .exit))) ⌝ }
 {
     clear(names);
     clear(formulas);
@@ -180,13 +171,18 @@ fn run_or_clear(
     left: &mut [u16],
     right: &mut [u16],
 ) -> Answer
-    requires { ⌜ (length (now text) ≤ 65536) × (tooShort (record { names = length (now names); formulas = length (now formulas); rows = length (now rows); left = length (now left); right = length (now right) }) ≡ false) × Zeros (now names) (now formulas) (now rows) (now left) (now right) ⌝ }
-    ensures { λ r. ⌜ Accepts (now (text .entry)) (now (names .exit)) (now (formulas .exit)) (now (rows .exit)) (now (left .exit)) (now (right .exit)) r ⊎ (Refuses (now (text .entry)) r × Zeros (now (names .exit)) (now (formulas .exit)) (now (rows .exit)) (now (left .exit)) (now (right .exit))) ⌝ }
+    requires { ⌜ (length (now text) ≤ mostBytes)
+        × (tooShort (lengths (five (now names) (now formulas) (now rows) (now left) (now right))) ≡ false)
+        × Zeros (five (now names) (now formulas) (now rows) (now left) (now right)) ⌝ }
+    ensures { λ r. ⌜ Accepts (now (text .entry))
+        (five (now (names .exit)) (now (formulas .exit)) (now (rows .exit)) (now (left .exit)) (now (right .exit))) r
+        ⊎ (Refuses (now (text .entry)) r
+        × Zeros (five (now (names .exit)) (now (formulas .exit)) (now (rows .exit)) (now (left .exit)) (now (right .exit)))) ⌝ }
 {
     let mut words = [0u64; 3072];
-    let answer = run(text, names, formulas, &mut words, rows, left, right);
-    let number = answer.number;
-    if number == 0 {
+    let ran = run(text, names, formulas, &mut words, rows, left, right);
+    let answer = finish(text, ran);
+    if answer.number == 0 {
         return answer;
     }
     clear_all(names, formulas, rows, left, right);
@@ -203,7 +199,9 @@ pub fn judge(
     left: &mut [u16],
     right: &mut [u16],
 ) -> Answer
-    ensures { λ r. ⌜ Judges (now (text .entry)) (record { names = length (now (names .entry)); formulas = length (now (formulas .entry)); rows = length (now (rows .entry)); left = length (now (left .entry)); right = length (now (right .entry)) }) (now (names .exit)) (now (formulas .exit)) (now (rows .exit)) (now (left .exit)) (now (right .exit)) r ⌝ }
+    ensures { λ r. ⌜ Judges (now (text .entry))
+        (lengths (five (now (names .entry)) (now (formulas .entry)) (now (rows .entry)) (now (left .entry)) (now (right .entry))))
+        (five (now (names .exit)) (now (formulas .exit)) (now (rows .exit)) (now (left .exit)) (now (right .exit))) r ⌝ }
 {
     let short = too_short(
         names.len(),
@@ -216,7 +214,7 @@ pub fn judge(
     if short {
         return Answer { number: 1, line: 0 };
     }
-    if 65536 < text.len() {
+    if MOST_BYTES < text.len() {
         return Answer { number: 2, line: 0 };
     }
     run_or_clear(text, names, formulas, rows, left, right)
@@ -232,7 +230,9 @@ pub extern "C" fn elk_judge(
     left: &mut [u16],
     right: &mut [u16],
 ) -> Answer
-    ensures { λ r. ⌜ Judges (now (text .entry)) (record { names = length (now (names .entry)); formulas = length (now (formulas .entry)); rows = length (now (rows .entry)); left = length (now (left .entry)); right = length (now (right .entry)) }) (now (names .exit)) (now (formulas .exit)) (now (rows .exit)) (now (left .exit)) (now (right .exit)) r ⌝ }
+    ensures { λ r. ⌜ Judges (now (text .entry))
+        (lengths (five (now (names .entry)) (now (formulas .entry)) (now (rows .entry)) (now (left .entry)) (now (right .entry))))
+        (five (now (names .exit)) (now (formulas .exit)) (now (rows .exit)) (now (left .exit)) (now (right .exit))) r ⌝ }
 {
     judge(text, names, formulas, rows, left, right)
 }

@@ -1,9 +1,11 @@
 -- `judge::clear_all` meets its contract: each table is cleared.
-use lib.ListN.{length}
-use Rattle.judge.proofs.Whole.{zeros-long}
+use mathlib.Core.Path.{_≡_}
+use Rattle.judge.specs.Contract.{five, lengths, clear}
+use Rattle.judge.proofs.Whole.{all-zeros}
 use borrow.Author.Needs.{needs}
 use Rattle.judge.proofs.clear_all.Statement.{statement}
 use Rattle.judge.proofs.clear_all.Tie as tie
+use Rattle.tables.proofs.clear.Reads as clear-reads
 
 clear-requires : tie.Need-clear-requires
 clear-requires c κs = search needs
@@ -37,13 +39,15 @@ same-length-5 c = search needs
 
 returns : tie.Need-returns
 returns c =
-    record {
-      names-table = zeros-long (c .before .before .before .before .before .before .before .before .before .before .before .before .before .before .before .before .before .before .clear .last .0) (length (c .before .before .before .before .before .before .before .before .before .before .before .before .before .before .before .before .before .before .before .before .before .before .before .before .before .args .names .now)) (c .before .before .before .before .before .before .before .before .before .before .before .before .before .before .before .before .before .before .clear .ensures);
-      formulas-table = zeros-long (c .before .before .before .before .before .before .before .before .before .before .before .before .before .before .clear2 .last .0) (length (c .before .before .before .before .before .before .before .before .before .before .before .before .before .before .before .before .before .before .before .before .before .before .before .before .before .args .formulas .now)) (c .before .before .before .before .before .before .before .before .before .before .before .before .before .before .clear2 .ensures);
-      rows-table = zeros-long (c .before .before .before .before .before .before .before .before .before .before .clear3 .last .0) (length (c .before .before .before .before .before .before .before .before .before .before .before .before .before .before .before .before .before .before .before .before .before .before .before .before .before .args .rows .now)) (c .before .before .before .before .before .before .before .before .before .before .clear3 .ensures);
-      left-pool = zeros-long (c .before .before .before .before .before .before .clear4 .last .0) (length (c .before .before .before .before .before .before .before .before .before .before .before .before .before .before .before .before .before .before .before .before .before .before .before .before .before .args .left .now)) (c .before .before .before .before .before .before .clear4 .ensures);
-      right-pool = zeros-long (c .before .before .clear5 .last .0) (length (c .before .before .before .before .before .before .before .before .before .before .before .before .before .before .before .before .before .before .before .before .before .before .before .before .before .args .right .now)) (c .before .before .clear5 .ensures);
-    }
+    let fifth = c .before .before in
+    let fourth = fifth .before .before .before .before in
+    let third = fourth .before .before .before .before in
+    let second = third .before .before .before .before in
+    let first = second .before .before .before .before in
+    let args = first .before .before .before .before .before .before .before .args in
+    let before = lengths (five (args .names .now) (args .formulas .now) (args .rows .now) (args .left .now) (args .right .now)) in
+    all-zeros _ before
+    (λ i. five (first .clear .ensures i) (second .clear2 .ensures i) (third .clear3 .ensures i) (fourth .clear4 .ensures i) (fifth .clear5 .ensures i))
 
 pub clear-all-spec : {M : Type 1} → statement M
 clear-all-spec =

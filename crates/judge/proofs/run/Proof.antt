@@ -1,33 +1,45 @@
 -- `judge::run` meets its contract: the loop keeps `Running`, and each return is one of its laws.
-use Prim.Native.Nat.{_-_}
+use Prim.Native.Nat.{_-_, _≤_}
 use native.Mathlib.Omega.{arith}
 use borrow.Author.Needs.{needs}
-use mathlib.Core.Path.{_≡_, refl}
-use mathlib.Core.Logic.{inl, inr}
+use mathlib.Core.Path.{_≡_, refl, sym, subst, _∙_}
 use lib.ListN.{length}
+use Rattle.format.specs.Text.{lineFeed}
+use Rattle.text.specs.Parts.{nextAt}
+use Rattle.text.proofs.PartLaws.{next-bounds}
+use Rattle.lines.specs.State.{tables}
+use Rattle.lines.specs.declared.state.State.{State}
 use Rattle.judge.specs.Running.{Running}
-use Rattle.judge.proofs.Running.{running-start, counted-nothing, run-refused, run-unclaimed, run-claimed}
+use Rattle.judge.proofs.Running.{running-start, running-next, runs-refused, runs-out}
 use Rattle.judge.proofs.run.Statement.{statement}
 use Rattle.judge.proofs.run.Tie as tie
 
 abbrev Inv-loop : tie.InvT-loop
-Inv-loop text names₀ formulas₀ words₀ rows₀ left₀ right₀ counts₀ at₀ line₀ names formulas words rows left right counts at line =
-    Running text line at counts (record { names = names; formulas = formulas; words = words; rows = rows; left = left; right = right })
-    × (length names ≡ length names₀) × (length formulas ≡ length formulas₀) × (length words ≡ length words₀) × (length rows ≡ length rows₀) × (length left ≡ length left₀) × (length right ≡ length right₀)
+Inv-loop text names₀ formulas₀ words₀ rows₀ left₀ right₀ state₀ at₀ line₀ end₀ names formulas words rows left right state at line end =
+    Running text line at state (tables names formulas words rows left right) × (end ≡ nextAt lineFeed text at)
+    × (length names ≡ length names₀) × (length formulas ≡ length formulas₀) × (length words ≡ length words₀)
+    × (length rows ≡ length rows₀) × (length left ≡ length left₀) × (length right ≡ length right₀)
 
 abbrev μ-loop : tie.MeasureT-loop
-μ-loop text names₀ formulas₀ words₀ rows₀ left₀ right₀ counts₀ at₀ line₀ names formulas words rows left right counts at line = length text - at
+μ-loop text names₀ formulas₀ words₀ rows₀ left₀ right₀ state₀ at₀ line₀ end₀ names formulas words rows left right state at line end =
+    length text - at
 
-nothing-requires : tie.Need-nothing-requires Inv-loop μ-loop
-nothing-requires c κs = search needs
+start-requires : tie.Need-start-requires Inv-loop μ-loop
+start-requires c κs = search needs
+
+find-requires : tie.Need-find-requires Inv-loop μ-loop
+find-requires c κs = search needs
 
 loop-holds : tie.Need-loop-holds Inv-loop μ-loop
 loop-holds c =
-    let first = c .before .before .before .before .before .before .before .before in
-    (running-start (first .args .text .now) _ (c .nothing .result) (first .pre .1) (first .pre .2) (first .pre .3) (counted-nothing _ (c .nothing .ensures)), refl, refl, refl, refl, refl, refl)
+    let entry = c .before .before .before .before .before .before .before .before .before in
+    let args = entry .args in
+    let lent = tables (args .names .now) (args .formulas .now) (args .words .now) (args .rows .now) (args .left .now) (args .right .now) in
+    let started = running-start (args .text .now) lent (entry .pre .1) (entry .pre .2) (entry .pre .3) in
+    (subst (λ (s : State). Running (args .text .now) 1 0 s lent) (sym (c .before .start .ensures)) started, c .find .ensures, refl, refl, refl, refl, refl, refl)
 
-advance-requires : tie.Need-advance-requires Inv-loop μ-loop
-advance-requires c κs = search needs
+step-line-requires : tie.Need-step-line-requires Inv-loop μ-loop
+step-line-requires c κs = search needs
 
 same-length : tie.Need-same-length Inv-loop μ-loop
 same-length c = search needs
@@ -49,19 +61,63 @@ same-length-6 c = search needs
 
 returns : tie.Need-returns Inv-loop μ-loop
 returns c =
-    let loop = c .before .before .before .before .before .before .before .before .before .before .before .before .before .before .before .before .before .before .before .before .before .loop in
-    inr (run-refused (c .before .before .before .before .before .before .before .before .before .before .before .before .before .before .before .before .before .before .before .before .before .before .before .before .before .before .before .before .before .before .args .text .now) (loop .line) (loop .at) (c .before .before .before .before .before .before .before .before .before .before .before .before .before .advance .result) _ (c .before .before .before .before .before .before .before .before .before .before .before .before .before .advance .ensures (loop .inv .0)) (c .if1 .taken))
+    let at-step = c .before .before .before .before .before .before .before .before .before .before .before .before .before .before .before in
+    let at-test = at-step .before .before .before .before .before .before .before in
+    let loop = at-test .before .loop in
+    let entry = at-test .before .before .before .before .before .before .before .before .before .before .before in
+    runs-refused (entry .args .text .now) (loop .line) (loop .at) (loop .state) _ (loop .inv .0) (loop .end) (entry .pre .0) (loop .inv .1)
+    (at-test .loop-test .taken) (at-step .step-line .result) _ (at-step .step-line .ensures) (c .if1 .taken)
+
+add-at : tie.Need-add-at Inv-loop μ-loop
+add-at c =
+    let at-step = c .before .before .before .before .before .before .before .before .before .before .before .before .before .before .before in
+    let at-test = at-step .before .before .before .before .before .before .before in
+    let loop = at-test .before .loop in
+    let entry = at-test .before .before .before .before .before .before .before .before .before .before .before in
+    omega (arith, entry .pre .0, at-test .loop-test .taken)
 
 add-line : tie.Need-add-line Inv-loop μ-loop
-add-line c = let loop = c .before .before .before .before .before .before .before .before .before .before .before .before .before .before .before .before .before .before .before .before .before .before .loop in let few = loop .inv .0 .few in let test = c .before .before .before .before .before .before .before .before .before .before .before .before .before .before .before .before .before .before .before .before .before .loop-test in let most = c .before .before .before .before .before .before .before .before .before .before .before .before .before .before .before .before .before .before .before .before .before .before .before .before .before .before .before .before .before .before .before .pre .0 in omega arith
+add-line c =
+    let at-step = c .before .before .before .before .before .before .before .before .before .before .before .before .before .before .before in
+    let at-test = at-step .before .before .before .before .before .before .before in
+    let loop = at-test .before .loop in
+    let entry = at-test .before .before .before .before .before .before .before .before .before .before .before in
+    let running = loop .inv .0 in
+    omega (arith, entry .pre .0, running .few, running .within)
+
+find-requires-2 : tie.Need-find-requires-2 Inv-loop μ-loop
+find-requires-2 c κs = search needs
 
 loop-less : tie.Need-loop-less Inv-loop μ-loop
-loop-less c = let loop = c .before .before .before .before .before .before .before .before .before .before .before .before .before .before .before .before .before .before .before .before .before .before .loop in let test = c .before .before .before .before .before .before .before .before .before .before .before .before .before .before .before .before .before .before .before .before .before .loop-test in let more = (c .before .before .before .before .before .before .before .before .before .before .before .before .before .before .advance .ensures (loop .inv .0)) .further (c .before .if1 .left) in omega arith
+loop-less c =
+    let at-step = c .before .before .before .before .before .before .before .before .before .before .before .before .before .before .before .before in
+    let at-test = at-step .before .before .before .before .before .before .before in
+    let loop = at-test .before .loop in
+    let entry = at-test .before .before .before .before .before .before .before .before .before .before .before in
+    let running = loop .inv .0 in
+    let bounds = next-bounds lineFeed (entry .args .text .now) (loop .at) (running .within) in
+    omega (arith, at-test .loop-test .taken, loop .inv .1, bounds .0)
 
 loop-again : tie.Need-loop-again Inv-loop μ-loop
 loop-again c =
-    let loop = c .before .before .before .before .before .before .before .before .before .before .before .before .before .before .before .before .before .before .before .before .before .before .loop in
-    ((c .before .before .before .before .before .before .before .before .before .before .before .before .before .before .advance .ensures (loop .inv .0)) .passed (c .before .if1 .left), search needs, search needs, search needs, search needs, search needs, search needs)
+    let at-step = c .before .before .before .before .before .before .before .before .before .before .before .before .before .before .before .before in
+    let at-test = at-step .before .before .before .before .before .before .before in
+    let loop = at-test .before .loop in
+    let entry = at-test .before .before .before .before .before .before .before .before .before .before .before in
+    let passed = running-next (entry .args .text .now) (loop .line) (loop .at) (loop .state) _ (loop .inv .0) (loop .end) (entry .pre .0)
+    (loop .inv .1) (at-test .loop-test .taken) (at-step .step-line .result) _ (at-step .step-line .ensures) (c .before .if1 .left) in
+    let bounds = next-bounds lineFeed (entry .args .text .now) (loop .at) (loop .inv .0 .within) in
+    let from : loop .at ≤ loop .end = omega (arith, loop .inv .1, bounds .0) in
+    let within : loop .end ≤ length (entry .args .text .now) = omega (arith, at-test .loop-test .taken) in
+    let kept = at-step .step-line .ensures .inside from within .keeps .lengths in
+    (passed,
+    c .find2 .ensures,
+    kept .names ∙ loop .inv .2,
+    kept .formulas ∙ loop .inv .3,
+    kept .words ∙ loop .inv .4,
+    kept .rows ∙ loop .inv .5,
+    kept .left ∙ loop .inv .6,
+    kept .right ∙ loop .inv .7)
 
 same-length-7 : tie.Need-same-length-7 Inv-loop μ-loop
 same-length-7 c = search needs
@@ -83,31 +139,9 @@ same-length-12 c = search needs
 
 returns-2 : tie.Need-returns-2 Inv-loop μ-loop
 returns-2 c =
-    let loop = c .before .before .loop in
-    inr (run-unclaimed (c .before .before .before .before .before .before .before .before .before .before .before .args .text .now) (loop .line) (loop .at) (loop .counts) _ (loop .inv .0) (c .before .loop-test .left) (c .if2 .taken))
-
-same-length-13 : tie.Need-same-length-13 Inv-loop μ-loop
-same-length-13 c = search needs
-
-same-length-14 : tie.Need-same-length-14 Inv-loop μ-loop
-same-length-14 c = search needs
-
-same-length-15 : tie.Need-same-length-15 Inv-loop μ-loop
-same-length-15 c = search needs
-
-same-length-16 : tie.Need-same-length-16 Inv-loop μ-loop
-same-length-16 c = search needs
-
-same-length-17 : tie.Need-same-length-17 Inv-loop μ-loop
-same-length-17 c = search needs
-
-same-length-18 : tie.Need-same-length-18 Inv-loop μ-loop
-same-length-18 c = search needs
-
-returns-3 : tie.Need-returns-3 Inv-loop μ-loop
-returns-3 c =
-    let loop = c .before .before .loop in
-    inl (run-claimed (c .before .before .before .before .before .before .before .before .before .before .before .args .text .now) (loop .line) (loop .at) (loop .counts) _ (loop .inv .0) (c .before .loop-test .left) (c .if2 .left))
+    let loop = c .before .loop in
+    let entry = c .before .before .before .before .before .before .before .before .before .before .before in
+    runs-out (entry .args .text .now) (loop .line) (loop .at) (loop .state) _ (loop .inv .0) (loop .end) (loop .inv .1) (c .loop-test .left)
 
 pub run-spec : {M : Type 1} → statement M
 run-spec =
@@ -115,9 +149,10 @@ run-spec =
     (tie.spec
     Inv-loop
     μ-loop
-    nothing-requires
+    start-requires
+    find-requires
     loop-holds
-    advance-requires
+    step-line-requires
     same-length
     same-length-2
     same-length-3
@@ -125,7 +160,9 @@ run-spec =
     same-length-5
     same-length-6
     returns
+    add-at
     add-line
+    find-requires-2
     loop-less
     loop-again
     same-length-7
@@ -134,11 +171,4 @@ run-spec =
     same-length-10
     same-length-11
     same-length-12
-    returns-2
-    same-length-13
-    same-length-14
-    same-length-15
-    same-length-16
-    same-length-17
-    same-length-18
-    returns-3)
+    returns-2)
