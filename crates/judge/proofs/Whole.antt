@@ -92,6 +92,11 @@ module _ (text : Bytes) (lent : Lent) where
     judges-run e (inl a) = judges-accepted e a
     judges-run e (inr r) = judges-cleared (e ∙ r .0 .line) (r .0 .number) (r .1)
 
+-- the lengths are those of the lent tables
+pub same-lengths : (t : Contents) (lent : Lent) → length (t .names) ≡ lent .names → length (t .formulas) ≡ lent .formulas
+    → length (t .rows) ≡ lent .rows → length (t .left) ≡ lent .left → length (t .right) ≡ lent .right → lengths t ≡ lent
+same-lengths t lent n f r a b = λ i. record { names = n i; formulas = f i; rows = r i; left = a i; right = b i }
+
 module _ {text : Bytes} {t : Contents} {answer : Answer} (ran : Accepts text t answer ⊎ Refuses text answer) where
   -- accepted: the tables stay
   pub kept : answer .number ≡ 0 → Accepts text t answer ⊎ (Refuses text answer × Zeros t)

@@ -1,0 +1,86 @@
+-- `judge::run_or_clear` meets its contract: the tables stay where the run accepts, and are clear where it refuses.
+use mathlib.Core.Logic.{inr}
+use mathlib.Core.Path.{refl}
+use Rattle.judge.proofs.Whole.{kept, refuses, long-enough, zeros-long}
+use borrow.Author.Needs.{needs}
+use Rattle.judge.proofs.run_or_clear.Statement.{statement}
+use Rattle.judge.proofs.run_or_clear.Tie as tie
+
+slice-aggregate-run : tie.Need-slice-aggregate-run
+slice-aggregate-run c = search needs
+
+run-requires : tie.Need-run-requires
+run-requires c κs =
+    let entry = c .before .before .before .before .before .before .before .before .before .before .before .before in
+    (entry .pre .0, long-enough _ (entry .pre .1) (search needs), entry .pre .2, zeros-long _ 3072 refl)
+
+finish-requires : tie.Need-finish-requires
+finish-requires c κs = search needs
+
+same-length : tie.Need-same-length
+same-length c = search needs
+
+same-length-2 : tie.Need-same-length-2
+same-length-2 c = search needs
+
+same-length-3 : tie.Need-same-length-3
+same-length-3 c = search needs
+
+same-length-4 : tie.Need-same-length-4
+same-length-4 c = search needs
+
+same-length-5 : tie.Need-same-length-5
+same-length-5 c = search needs
+
+returns : tie.Need-returns
+returns c =
+    let finished = c .before .before in
+    let ran = finished .before .before .before .before .before .before .before .before .before .before .before .before in
+    kept (finished .finish .ensures _ (ran .run .ensures)) (c .if1 .taken)
+
+clear-all-requires : tie.Need-clear-all-requires
+clear-all-requires c κs = search needs
+
+same-length-6 : tie.Need-same-length-6
+same-length-6 c = search needs
+
+same-length-7 : tie.Need-same-length-7
+same-length-7 c = search needs
+
+same-length-8 : tie.Need-same-length-8
+same-length-8 c = search needs
+
+same-length-9 : tie.Need-same-length-9
+same-length-9 c = search needs
+
+same-length-10 : tie.Need-same-length-10
+same-length-10 c = search needs
+
+returns-2 : tie.Need-returns-2
+returns-2 c =
+    let cleared = c .before .before .before .before .before .before .before .before .before .before in
+    let tested = cleared .before .before .before .before .before .before in
+    let finished = tested .before .before in
+    let ran = finished .before .before .before .before .before .before .before .before .before .before .before .before in
+    inr (refuses (finished .finish .ensures _ (ran .run .ensures)) (tested .if1 .left), cleared .clear-all .ensures)
+
+pub run-or-clear-spec : {M : Type 1} → statement M
+run-or-clear-spec =
+    tie.close
+    (tie.spec
+    slice-aggregate-run
+    run-requires
+    finish-requires
+    same-length
+    same-length-2
+    same-length-3
+    same-length-4
+    same-length-5
+    returns
+    clear-all-requires
+    same-length-6
+    same-length-7
+    same-length-8
+    same-length-9
+    same-length-10
+    returns-2)
