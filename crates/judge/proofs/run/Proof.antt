@@ -109,15 +109,16 @@ loop-again c =
     let bounds = next-bounds lineFeed (entry .args .text .now) (loop .at) (loop .inv .0 .within) in
     let from : loop .at ≤ loop .end = omega (arith, loop .inv .1, bounds .0) in
     let within : loop .end ≤ length (entry .args .text .now) = omega (arith, at-test .loop-test .taken) in
-    let kept = at-step .step-line .ensures .inside from within .keeps .lengths in
-    (passed,
-    c .find2 .ensures,
-    kept .names ∙ loop .inv .2,
-    kept .formulas ∙ loop .inv .3,
-    kept .words ∙ loop .inv .4,
-    kept .rows ∙ loop .inv .5,
-    kept .left ∙ loop .inv .6,
-    kept .right ∙ loop .inv .7)
+    let kept = at-step .step-line .ensures .inside from within .keeps .lengths in (
+      passed,
+      c .find2 .ensures,
+      kept .names ∙ loop .inv .2,
+      kept .formulas ∙ loop .inv .3,
+      kept .words ∙ loop .inv .4,
+      kept .rows ∙ loop .inv .5,
+      kept .left ∙ loop .inv .6,
+      kept .right ∙ loop .inv .7,
+    )
 
 same-length-7 : tie.Need-same-length-7 Inv-loop μ-loop
 same-length-7 c = search needs
