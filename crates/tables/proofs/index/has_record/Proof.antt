@@ -20,7 +20,9 @@ module _ (found key : NodeRecord) where
 
   by-second : found .word ≡ key .word → found .first ≡ key .first → eqb (found .second) (key .second) ≡ sameList (nodeNumbers found) (nodeNumbers key)
   unfolding sameList
-  by-second w f = last (eqb (found .second) (key .second)) ∙ ap₂ (λ (a b : Bool). a && (b && (eqb (found .second) (key .second) && true))) (sym (eq-eqb _ _ w)) (sym (eq-eqb _ _ f))
+  by-second w f =
+      last (eqb (found .second) (key .second)) ∙ ap₂ (λ (a b : Bool). a && (b && (eqb (found .second) (key .second) && true)))
+      (sym (eq-eqb _ _ w)) (sym (eq-eqb _ _ f))
     where
       last : (b : Bool) → b ≡ (b && true)
       last true = refl
