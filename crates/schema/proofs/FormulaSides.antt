@@ -18,7 +18,7 @@ use Rattle.format.proofs.Formulas.{known-earlier, equal-numbers}
 use Rattle.format.proofs.GoodBodies.{Held}
 use Rattle.sides.specs.Numbers.{noNumber, missing, some?, numbersOf, numberSide}
 use Rattle.sides.specs.declared.numbers.Numbers.{Numbers}
-use Rattle.sides.proofs.Decoded.{in-decoded, decoded-in, number-on}
+use Rattle.format.proofs.Decoded.{in-decoded, decoded-in, number-on}
 use Rattle.schema.proofs.Standing.{Stands, StandFor}
 
 some-none : (n : ℕ) (ns : List ℕ) → n ≡ noNumber → some? n ns ≡ ns
