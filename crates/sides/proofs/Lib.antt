@@ -5,5 +5,4 @@ pub mod Deciding
 pub mod SharedSides
 pub mod NumberSides
 pub mod DecodedSides
-mod Equal
 mod Either

@@ -16,7 +16,7 @@ use Rattle.tables.specs.Records.{nodeAt, nodeOf, nodeNumbers}
 use Rattle.tables.specs.Holding.{HoldsNodes}
 use Rattle.tables.specs.Index.{slotWords, formulaWords, slotOf, slotAt, Last, Indexed, entered, NodeFound}
 use Rattle.tables.specs.declared.found.Found.{Found}
-use Rattle.tables.proofs.Equal.{same-false}
+use Rattle.format.proofs.Equal.{same-false}
 use Rattle.tables.proofs.Encoded.{node-held}
 
 module _ {X : Type 0} (test : X → Bool) where

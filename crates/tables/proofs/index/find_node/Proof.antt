@@ -12,7 +12,7 @@ use Rattle.format.specs.Tables.{nodeRecord}
 use Rattle.tables.specs.Records.{nodeNumbers}
 use Rattle.tables.specs.Holding.{HoldsNodes}
 use Rattle.tables.specs.Index.{slotWords, Indexed}
-use Rattle.tables.proofs.Equal.{same-iff}
+use Rattle.format.proofs.Equal.{same-iff}
 use Rattle.tables.proofs.Indexing.{record-there, Cursor, walk-start, walk-next, walk-falls, found-at, found-nowhere}
 use Rattle.tables.proofs.index.find_node.Statement.{statement}
 use Rattle.tables.proofs.index.find_node.Tie as tie

@@ -10,7 +10,7 @@ use lib.ListN.{getD}
 use Rattle.format.specs.Text.{sameList}
 use Rattle.tables.specs.declared.records.NodeRecord.{NodeRecord}
 use Rattle.tables.specs.Records.{nodeNumbers}
-use Rattle.tables.proofs.Equal.{same-false}
+use Rattle.format.proofs.Equal.{same-false}
 use Rattle.tables.proofs.index.has_record.Statement.{statement}
 use Rattle.tables.proofs.index.has_record.Tie as tie
 
