@@ -1,17 +1,14 @@
 -- The number and the kinds of a row's premises, and its principal formula, compared as numbers: what each test says of
 -- `wrongPremises`.
 use Prim.Native.Nat.{ℕ, suc, _<_}
-use native.Mathlib.Decide.{decLt}
 use native.Mathlib.Omega.{arith}
 use mathlib.Core.Bool.{Bool, true, false, not, _&&_, _||_, or-true, and-false}
 use mathlib.Core.List.{List, [], _∷_, _++_, map}
 use mathlib.Core.Option.{Option, none, some}
 use mathlib.Core.Path.{_≡_, refl, sym, ap, ap₂, _∙_}
 use lib.ListN.{length, getD, length-map, List·getD-map}
-use Rattle.equilibrium.proofs.Sets.{dec-all, from-yes}
 use Rattle.elk.specs.Sequent.{Kind, elk, refutation}
-use Rattle.elk.specs.Rules.{Rule, entry, rules, kindOf, hasPrincipal, premiseKinds}
-use Rattle.elk.proofs.Faithful.{every-rule}
+use Rattle.elk.specs.Rules.{Rule, entry, kindOf, hasPrincipal, premiseKinds}
 use Rattle.format.specs.File.{Row, Body, sequentOf}
 use Rattle.format.specs.Tables.{absent, rowAt}
 use Rattle.format.specs.Tests.{sameKind, sameKinds, present, sameTruth, premisesOf, wrongPremises}
@@ -21,6 +18,7 @@ use Rattle.tables.specs.Records.{rowOf}
 use Rattle.tables.proofs.Encoded.{rule-held}
 use Rattle.rules.specs.RuleTable.{kindNumber, kindNumbers, truthNumber, ruleNumbers, ruleNumber}
 use Rattle.rules.proofs.RuleNumbers.{rule-number}
+use Rattle.schema.proofs.SchemaRule.{two-at-most}
 use Rattle.rows.specs.Judging.{namedOf, Judging}
 use Rattle.rows.specs.declared.draft.Draft.{Draft}
 
@@ -104,11 +102,6 @@ asked-first s = kind-numbers (premiseKinds (entry s)) _ .0
 
 pub asked-second : (s : Rule) → getD (ruleNumbers s) 5 0 ≡ kindAsked (premiseKinds (entry s)) 1
 asked-second s = kind-numbers (premiseKinds (entry s)) _ .1
-
--- no rule has more than two premises, by one computed test
-pub two-at-most : (s : Rule) → length (premiseKinds (entry s)) < 3
-unfolding dec-all decLt
-two-at-most s = from-yes (dec-all (λ r. decLt (length (premiseKinds (entry r))) 3) rules) tt s (every-rule s)
 
 truth-same : (t u : Bool) → truthNumber t ≡ truthNumber u → sameTruth t u ≡ true
 truth-same true true e = refl

@@ -47,9 +47,10 @@ use Rattle.cut.proofs.CutRule.{cut-rule}
 use Rattle.literals.specs.Literals.{DefaultStep, InitialStep}
 use Rattle.schema.specs.SchemaRows.{Sides, _⊣_, Handed, SidesRise, sequentWith, OfBody, SchemaAnswer}
 use Rattle.unstable.specs.Unstable.{UnstableStep}
+use Rattle.schema.proofs.SchemaRule.{two-at-most}
 use Rattle.rows.specs.Judging.{principalOf, Judging, Premised}
 use Rattle.rows.specs.declared.draft.Draft.{Draft}
-use Rattle.rows.proofs.PremiseKinds.{premiseRow, two-at-most}
+use Rattle.rows.proofs.PremiseKinds.{premiseRow}
 use Rattle.rows.proofs.Seen.{
   seen,
   seen-alike,
