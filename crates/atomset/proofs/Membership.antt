@@ -7,8 +7,6 @@ use Prim.Native.Nat.{ℕ, _^_, _<_}
 use native.Mathlib.Decide.{decLt}
 use native.Mathlib.Omega.{arith}
 use lib.Bits.{bitAnd, and-lt, and-comm}
-use lib.Dec.{eqb, ltb}
-use borrow.Author.Tests.{eqb-true, eq-eqb, ltb-true, lt-ltb}
 use Rattle.atomset.specs.AtomSet.{has, Member, Included}
 use Rattle.atomset.proofs.Digits.{has-and, has-above, same-members}
 
@@ -26,12 +24,6 @@ not-iff : (x : Bool) → (not x ≡ true) ↔ (x ≡ true → ⊥)
 not-iff true = (λ e h. false≢true e, λ n. absurd (n refl))
 not-iff false = (λ e h. false≢true h, λ n. refl)
 
-atom-iff : (i atom : ℕ) → ((eqb i atom && ltb atom 64) ≡ true) ↔ ((i ≡ atom) × (atom < 64))
-atom-iff i atom = (
-  λ e. let p = and-iff (eqb i atom) (ltb atom 64) .0 e in (eqb-true i atom (p .0), ltb-true atom 64 (p .1)),
-  λ p. and-iff (eqb i atom) (ltb atom 64) .1 (eq-eqb i atom (p .0), lt-ltb atom 64 (p .1)),
-)
-
 -- ---- members
 
 -- a word's members are below its width
@@ -41,16 +33,6 @@ member-lt k set i h m = go (decLt i k)
     go : Dec (i < k) → i < k
     go (yes l) = l
     go (no n) = absurd (true≢false (sym m ∙ has-above k set i h (omega arith)))
-
-pub member-single : (atom r : ℕ) → ((i : ℕ) → has r i ≡ (eqb i atom && ltb atom 64)) → (i : ℕ) → Member i r ↔ ((i ≡ atom) × (atom < 64))
-member-single atom r e i = (λ m. atom-iff i atom .0 (sym (e i) ∙ m), λ p. e i ∙ atom-iff i atom .1 p)
-
-pub member-insert : (set atom r : ℕ) → ((i : ℕ) → has r i ≡ (has set i || (eqb i atom && ltb atom 64)))
-    → (i : ℕ) → Member i r ↔ (Member i set ⊎ ((i ≡ atom) × (atom < 64)))
-member-insert set atom r e i = (
-  λ m. ⊎-elim inl (λ t. inr (atom-iff i atom .0 t)) (or-iff (has set i) (eqb i atom && ltb atom 64) .0 (sym (e i) ∙ m)),
-  λ s. e i ∙ or-iff (has set i) (eqb i atom && ltb atom 64) .1 (⊎-elim inl (λ p. inr (atom-iff i atom .1 p)) s),
-)
 
 pub member-union : (a b r : ℕ) → ((i : ℕ) → has r i ≡ (has a i || has b i)) → (i : ℕ) → Member i r ↔ (Member i a ⊎ Member i b)
 member-union a b r e i = (λ m. or-iff (has a i) (has b i) .0 (sym (e i) ∙ m), λ s. e i ∙ or-iff (has a i) (has b i) .1 s)

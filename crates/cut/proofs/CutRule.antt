@@ -15,7 +15,7 @@ use Rattle.format.specs.Good.{GoodBody}
 use Rattle.format.specs.Tests.{unknownFormula}
 use Rattle.format.proofs.Formulas.{known-earlier}
 use Rattle.format.proofs.GoodBodies.{Held, good-held}
-use Rattle.sides.proofs.Decoded.{number-on}
+use Rattle.format.proofs.Decoded.{number-on}
 use Rattle.sides.proofs.DecodedSides.{part-decoded, passes-decoded, either-decoded, shared-decoded}
 use Rattle.sides.proofs.SharedSides.{shared-by-first}
 use Rattle.cut.specs.Cut.{CutSides}

@@ -1,7 +1,8 @@
 -- The law of common sets: when some sides are one set, each with something of its own added. It decides L and R of a
 -- rule without a search: the intersection of the sides will do if any set does.
 use mathlib.Core.Path.{_≡_, refl, sym, subst}
-use mathlib.Core.List.{List, [], _∷_, _++_, List·Memᴰ·not-nil, List·Memᴰ·head, List·Memᴰ·tail, List·Memᴰ·cases-cons, List·Memᴰ·append-cases, Memᴰ·append-left, Memᴰ·append-right}
+use mathlib.Core.List.{List, [], _∷_, _++_, List·Memᴰ·not-nil, List·Memᴰ·head, List·Memᴰ·tail}
+use mathlib.Core.List.{List·Memᴰ·cases-cons, List·Memᴰ·append-cases, Memᴰ·append-left, Memᴰ·append-right}
 use mathlib.Core.Logic.{⊎-elim, _↔_}
 use Rattle.equilibrium.specs.Meaning.{_∈_, _≈_}
 use Rattle.equilibrium.proofs.Sets.{dec-not, dec-and, dec-implies, dec-in, dec-part, dec-all, those, in-those}
@@ -18,7 +19,10 @@ module _ {X : Type 0} where
 
   -- what every member has, the first and the rest have
   pub every-cons : {P : X → Type 0} {x : X} {xs : List X} → ((y : X) → y ∈ x ∷ xs → P y) ↔ (P x × ((y : X) → y ∈ xs → P y))
-  every-cons {P} {x} = (λ f. (f x (List·Memᴰ·head refl), λ y m. f y (List·Memᴰ·tail m)), λ h y m. ⊎-elim (λ (e : y ≡ x). subst P (sym e) (h .0)) (h .1 y) (List·Memᴰ·cases-cons m))
+  every-cons {P} {x} = (
+    λ f. (f x (List·Memᴰ·head refl), λ y m. f y (List·Memᴰ·tail m)),
+    λ h y m. ⊎-elim (λ (e : y ≡ x). subst P (sym e) (h .0)) (h .1 y) (List·Memᴰ·cases-cons m),
+  )
 
 module _ {X : Type 0} (_≟_ : Discrete X) where
   intersection : List (Side X) → List X
@@ -36,14 +40,21 @@ module _ {X : Type 0} (_≟_ : Discrete X) where
   common-iff sides = (to, λ f. (intersection sides, from f))
     where
       to : (L : List X) × Common sides L → Shared sides
-      to (L, c) s m = (λ x a. c s m .1 x (Memᴰ·append-left L a), λ t k x w n. c t k .1 x (Memᴰ·append-right (t .added) (⊎-elim (λ a. absurd (n a)) (λ l. l) (List·Memᴰ·append-cases (s .added) (c s m .0 x w)))))
+      to (L, c) s m = (
+        λ x a. c s m .1 x (Memᴰ·append-left L a),
+        λ t k x w n. c t k .1 x
+            (Memᴰ·append-right (t .added) (⊎-elim (λ a. absurd (n a)) (λ l. l) (List·Memᴰ·append-cases (s .added) (c s m .0 x w)))),
+      )
 
       place : Shared sides → {s : Side X} → s ∈ sides → (x : X) → x ∈ s .whole → Dec (x ∈ s .added) → x ∈ s .added ++ intersection sides
       place f m x w (yes a) = Memᴰ·append-left (intersection sides) a
       place f {s} m x w (no n) = Memᴰ·append-right (s .added) (in-intersection sides m x .1 (λ t k. f s m .1 t k x w n))
 
       from : Shared sides → Common sides (intersection sides)
-      from f s m = (λ x w. place f m x w (dec-in _≟_ x (s .added)), λ x k. ⊎-elim (f s m .0 x) (λ i. in-intersection sides m x .0 i s m) (List·Memᴰ·append-cases (s .added) k))
+      from f s m = (
+        λ x w. place f m x w (dec-in _≟_ x (s .added)),
+        λ x k. ⊎-elim (f s m .0 x) (λ i. in-intersection sides m x .0 i s m) (List·Memᴰ·append-cases (s .added) k),
+      )
 
   unfoldable pub shared? : (sides : List (Side X)) → Dec (Shared sides)
   unfolding dec-all dec-and dec-part dec-implies dec-not dec-in

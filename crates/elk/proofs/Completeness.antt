@@ -5,7 +5,8 @@ use Prim.Native.Nat.{ℕ}
 use native.Mathlib.Decide.{ℕ-discrete}
 use mathlib.Core.Path.{_≡_, refl, sym, ap}
 use mathlib.Core.Bool.{Bool, true, false}
-use mathlib.Core.List.{List, [], _∷_, _++_, map, List·Memᴰ·head, List·Memᴰ·tail, List·Memᴰ·not-nil, List·Memᴰ·append-cases, List·Memᴰ·eq-of-singleton, Memᴰ·append-left, Memᴰ·append-right, Memᴰ·map, Memᴰ·of-map}
+use mathlib.Core.List.{List, [], _∷_, _++_, map, List·Memᴰ·head, List·Memᴰ·tail, List·Memᴰ·not-nil, List·Memᴰ·append-cases}
+use mathlib.Core.List.{List·Memᴰ·eq-of-singleton, Memᴰ·append-left, Memᴰ·append-right, Memᴰ·map, Memᴰ·of-map}
 use mathlib.Core.Logic.{_⊎_, inl, inr, ⊎-elim, dite}
 use Rattle.equilibrium.specs.Formula.{Formula, falsum, atom, neg, conj, disj, imp, atomsOf, atomsIn}
 use Rattle.equilibrium.specs.Meaning.{_∈_, _⊆_, _≈_, Holds, AllHold, NoneHolds, SomeHolds, Entails}
@@ -13,7 +14,8 @@ use Rattle.equilibrium.proofs.Sets.{≈-refl, dec-in}
 use Rattle.equilibrium.proofs.Satisfaction.{holds?, all-hold?, some-holds?, occurs}
 use Rattle.equilibrium.proofs.Models.{Smaller, smaller?, equilibrium-iff}
 use Rattle.elk.specs.Sequent.{_⇒_}
-use Rattle.elk.specs.Rules.{same, andl, andr, bot, orr, orl, notl, impr, impl, notr, is-any, is-falsity, is-negation, is-conjunction, is-disjunction, is-implication}
+use Rattle.elk.specs.Rules.{same, andl, andr, bot, orr, orl, notl, impr, impl, notr, is-any}
+use Rattle.elk.specs.Rules.{is-falsity, is-negation, is-conjunction, is-disjunction, is-implication}
 use Rattle.elk.specs.Instance.{Choice, domain, chosen, literal, fixed, excluded-middle, joined, Rising}
 use Rattle.elk.specs.Derivation.{EndsIn}
 use Rattle.elk.proofs.Sides.{cons-again, cons-swap, cons-middle, append-again, one-without}
@@ -61,16 +63,27 @@ module _ (T : List ℕ) where
     true-right (conj A B) s h = by-rule andr is-conjunction _ _ (true-right A (first-part A B s) (h .0), (true-right B (second-part A B s) (h .1), tt))
     true-right (disj A B) s (inl a) = by-rule orr is-disjunction _ _ (true-right A (first-part A B s) a, tt)
     true-right (disj A B) s (inr b) = by-rule orr is-disjunction _ _ (sides ≈-refl cons-swap (true-right B (second-part A B s) b), tt)
-    true-right (imp A B) s h = by-rule impr is-implication _ _ (dite (holds? T T A) (λ a. true-right B (more-left (second-part A B s)) (h .0 a)) (λ n. false-left A (first-part A B s) n), tt)
+    true-right (imp A B) s h =
+        by-rule impr is-implication _ _
+        (dite (holds? T T A) (λ a. true-right B (more-left (second-part A B s)) (h .0 a)) (λ n. false-left A (first-part A B s) n), tt)
 
     -- with what T fails on the left anything can be derived
     false-left : (A : Formula) {L R : List Formula} → Settles L (atomsOf A) → (Holds T T A → ⊥) → Derivable (A ∷ L ⇒ R)
     false-left falsum s n = by-rule bot is-falsity _ _ (identity, tt)
     false-left (atom p) s n = ⊎-elim (λ k. absurd (n (k .0))) (λ k. contradiction-left (k .1)) (s p (List·Memᴰ·head refl))
     false-left (neg A) s n = by-rule notl is-negation _ _ (dite (holds? T T A) (λ a. true-right A s a) (λ k. absurd (n k)), tt)
-    false-left (conj A B) s n = by-rule andl is-conjunction _ _ (dite (holds? T T A) (λ a. sides cons-swap ≈-refl (false-left B (more-left (second-part A B s)) (λ b. n (a, b)))) (λ k. false-left A (more-left (first-part A B s)) k), tt)
-    false-left (disj A B) s n = by-rule orl is-disjunction _ _ (false-left A (first-part A B s) (λ a. n (inl a)), (false-left B (second-part A B s) (λ b. n (inr b)), tt))
-    false-left (imp A B) s n = dite (holds? T T A) (λ a. by-rule impl is-implication _ _ (false-left B (second-part A B s) (λ b. n (λ x. b, λ x. b)), (true-right A (first-part A B s) a, tt))) (λ k. absurd (n (λ a. absurd (k a), λ a. absurd (k a))))
+    false-left (conj A B) s n =
+        by-rule andl is-conjunction _ _ (
+          dite (holds? T T A) (λ a. sides cons-swap ≈-refl (false-left B (more-left (second-part A B s)) (λ b. n (a, b))))
+              (λ k. false-left A (more-left (first-part A B s)) k),
+          tt,
+        )
+    false-left (disj A B) s n =
+        by-rule orl is-disjunction _ _ (false-left A (first-part A B s) (λ a. n (inl a)), (false-left B (second-part A B s) (λ b. n (inr b)), tt))
+    false-left (imp A B) s n =
+        dite (holds? T T A) (λ a. by-rule impl is-implication _ _
+        (false-left B (second-part A B s) (λ b. n (λ x. b, λ x. b)), (true-right A (first-part A B s) a, tt)))
+        (λ k. absurd (n (λ a. absurd (k a), λ a. absurd (k a))))
 
 -- Where a choice c fixes each atom on the left, T is the set that it chooses.
 
@@ -85,14 +98,17 @@ literal-right : {L R : List Formula} (e : ℕ × Bool) → fixed e ∈ L → Der
 literal-right (p, true) m = double-negation-left m
 literal-right (p, false) m = sides (cons-again m) ≈-refl identity
 
-joined-right : {L : List Formula} (F : Formula) (Fs : List Formula) → ((G : Formula) → G ∈ F ∷ Fs → Derivable (L ⇒ G ∷ [])) → Derivable (L ⇒ joined (F ∷ Fs) ∷ [])
+joined-right : {L : List Formula} (F : Formula) (Fs : List Formula)
+    → ((G : Formula) → G ∈ F ∷ Fs → Derivable (L ⇒ G ∷ [])) → Derivable (L ⇒ joined (F ∷ Fs) ∷ [])
 joined-right F [] d = d F (List·Memᴰ·head refl)
 joined-right F (G ∷ Fs) d = by-rule andr is-conjunction _ _ (d F (List·Memᴰ·head refl), (joined-right G Fs (λ H m. d H (List·Memᴰ·tail m)), tt))
 
 -- the first premise of `unst`
 literals-right : (c : Choice) {p : ℕ} → p ∈ chosen c → {L : List Formula} → map fixed c ⊆ L → Derivable (L ⇒ joined (map literal c) ∷ [])
 literals-right [] m s = absurd (List·Memᴰ·not-nil m)
-literals-right (e ∷ c) m s = joined-right (literal e) (map literal c) (λ G k. let d = Memᴰ·of-map literal (e ∷ c) k in rw (sym (d .2)) (literal-right (d .0) (s _ (Memᴰ·map fixed (d .1)))))
+literals-right (e ∷ c) m s =
+    joined-right (literal e) (map literal c)
+    (λ G k. let d = Memᴰ·of-map literal (e ∷ c) k in rw (sym (d .2)) (literal-right (d .0) (s _ (Memᴰ·map fixed (d .1)))))
 
 -- with T fixed on the left: T satisfies one of R, or fails one of L, or is not in equilibrium
 at-choice : {L R : List Formula} → Entails L R → (c : Choice) → Rising (domain c) → atomsIn L ++ atomsIn R ⊆ domain c → Derivable (map fixed c ++ L ⇒ R)
@@ -114,23 +130,32 @@ at-choice {L} {R} entailed c rising within = cases (some-holds? T R) (all-hold? 
     satisfied (A, m, h) = sides ≈-refl (cons-again m) (true-right T A (settled (λ p k. Memᴰ·append-right (atomsIn L) (occurs m p k))) h)
 
     failed : (A : Formula) × (A ∈ L) × (Holds T T A → ⊥) → Derivable (left ⇒ R)
-    failed (A, m, n) = sides (cons-again (Memᴰ·append-right (map fixed c) m)) ≈-refl (false-left T A (settled (λ p k. Memᴰ·append-left (atomsIn R) (occurs m p k))) n)
+    failed (A, m, n) =
+        sides (cons-again (Memᴰ·append-right (map fixed c) m)) ≈-refl (false-left T A (settled (λ p k. Memᴰ·append-left (atomsIn R) (occurs m p k))) n)
 
     unstable : Smaller L T → Derivable (left ⇒ R)
-    unstable (H, inside, h) = by-unstable c rising atoms (lost .1) (literals-right c (lost .1) fixed-left) (refutation-complete (record { H = H; T = T; inside = inside; left = with-fixed (with-fixed (h .1)); right = none }))
+    unstable (H, inside, h) =
+        by-unstable c rising atoms (lost .1) (literals-right c (lost .1) fixed-left)
+        (refutation-complete (record { H = H; T = T; inside = inside; left = with-fixed (with-fixed (h .1)); right = none }))
       where
         -- an atom of T outside H
         lost : (p : ℕ) × (p ∈ T) × (p ∈ H → ⊥)
         lost = one-without (λ p. dec-in ℕ-discrete p H) T (h .0)
 
         atoms : domain c ≈ atomsIn left
-        atoms = rw fixed-atoms (λ p m. Memᴰ·append-left (atomsIn L) m, λ p m. ⊎-elim (λ k. k) (λ k. within p (Memᴰ·append-left (atomsIn R) k)) (List·Memᴰ·append-cases (domain c) m))
+        atoms = rw fixed-atoms (
+          λ p m. Memᴰ·append-left (atomsIn L) m,
+          λ p m. ⊎-elim (λ k. k) (λ k. within p (Memᴰ·append-left (atomsIn R) k)) (List·Memᴰ·append-cases (domain c) m),
+        )
 
         with-fixed : {M : List Formula} → AllHold H T M → AllHold H T (map fixed c ++ M)
         with-fixed a A m = ⊎-elim (fixed-hold c rising H A) (a A) (List·Memᴰ·append-cases (map fixed c) m)
 
         none : NoneHolds H T (joined (map excluded-middle T) ∷ [])
-        none A m k = ⊎-elim (lost .2) (λ n. n (lost .1)) (joined-each H T (map excluded-middle T) (rw (sym (List·Memᴰ·eq-of-singleton m)) k) (excluded-middle (lost .0)) (Memᴰ·map excluded-middle (lost .1)))
+        none A m k =
+            ⊎-elim (lost .2) (λ n. n (lost .1))
+            (joined-each H T (map excluded-middle T) (rw (sym (List·Memᴰ·eq-of-singleton m)) k)
+            (excluded-middle (lost .0)) (Memᴰ·map excluded-middle (lost .1)))
 
     cases : Dec (SomeHolds T R) → Dec (AllHold T T L) → Dec (Smaller L T) → Derivable (left ⇒ R)
     cases (yes s) a k = satisfied s
@@ -141,10 +166,12 @@ at-choice {L} {R} entailed c rising within = cases (some-holds? T R) (all-hold? 
 -- Every choice put together, an atom at a time: L,~p => R gives L => R,~~p, and a cut with L,~~p => R gives L => R.
 all-choices : (atoms : List ℕ) {L R : List Formula} → ((c : Choice) → domain c ≡ atoms → Derivable (map fixed c ++ L ⇒ R)) → Derivable (L ⇒ R)
 all-choices [] d = d [] refl
-all-choices (p ∷ atoms) {L} {R} d = sides ≈-refl (append-again R) (by-cut (by-rule notr is-negation _ _ (all-choices atoms (with-entry false), tt)) (all-choices atoms (with-entry true)))
+all-choices (p ∷ atoms) {L} {R} d =
+    sides ≈-refl (append-again R) (by-cut (by-rule notr is-negation _ _ (all-choices atoms (with-entry false), tt)) (all-choices atoms (with-entry true)))
   where
     with-entry : (b : Bool) (c : Choice) → domain c ≡ atoms → Derivable (map fixed c ++ (fixed (p, b) ∷ L) ⇒ R)
     with-entry b c e = sides (cons-middle (map fixed c) L) ≈-refl (d ((p, b) ∷ c) (ap (λ (ps : List ℕ). p ∷ ps) e))
 
 pub complete : (L R : List Formula) → Entails L R → EndsIn L R
-complete L R entailed = let o = in-order (atomsIn L ++ atomsIn R) in ends-in-iff .1 (all-choices (o .0) (λ c e. at-choice entailed c (rw e (o .1)) (rw e (o .2 .1))))
+complete L R entailed = let o = in-order (atomsIn L ++ atomsIn R) in
+    ends-in-iff .1 (all-choices (o .0) (λ c e. at-choice entailed c (rw e (o .1)) (rw e (o .2 .1))))

@@ -11,7 +11,9 @@ use Rattle.equilibrium.proofs.Sets.{dec-not, dec-and, dec-implies, dec-map, dec
 use Rattle.equilibrium.proofs.Satisfaction.{occurs}
 use Rattle.elk.specs.Sequent.{Kind, elk, refutation, Sequent, _⇒_, _⨾_, Same}
 use Rattle.elk.specs.Rules.{Rule, Fits, Added, Schema, Entry, schema, default, cut, unstable, initial, entry}
-use Rattle.elk.specs.Instance.{meant, SchemaInstance, DefaultInstance, CutInstance, UnstableInstance, InitialInstance, LeftLiteral, left-atom, left-negated, left-verum, RightLiteral, right-atom, right-negated, right-falsum, domain, chosen, literal, fixed, excluded-middle, joined, Rising, InstanceOf, Instance}
+use Rattle.elk.specs.Instance.{meant, SchemaInstance, DefaultInstance, CutInstance, UnstableInstance, InitialInstance}
+use Rattle.elk.specs.Instance.{LeftLiteral, left-atom, left-negated, left-verum, RightLiteral, right-atom, right-negated}
+use Rattle.elk.specs.Instance.{right-falsum, domain, chosen, literal, fixed, excluded-middle, joined, Rising, InstanceOf, Instance}
 use Rattle.elk.proofs.Equality.{formula-discrete, kind-discrete}
 use Rattle.elk.proofs.CommonSets.{shared?}
 use Rattle.elk.proofs.Parts.{fits?}
@@ -19,7 +21,9 @@ use Rattle.elk.proofs.Entries.{Counted, lefts, rights, schema-iff, defa
 
 unfoldable pub same? : (s t : Sequent) → Dec (Same s t)
 unfolding dec-map dec-and dec-same kind-discrete formula-discrete
-same? s t = dec-map (λ h. record { kind = h .0; left = h .1 .0; right = h .1 .1 }) (λ h. (h .kind, (h .left, h .right))) (dec-and (kind-discrete (s .kind) (t .kind)) (dec-and (dec-same formula-discrete (s .left) (t .left)) (dec-same formula-discrete (s .right) (t .right))))
+same? s t =
+    dec-map (λ h. record { kind = h .0; left = h .1 .0; right = h .1 .1 }) (λ h. (h .kind, (h .left, h .right)))
+    (dec-and (kind-discrete (s .kind) (t .kind)) (dec-and (dec-same formula-discrete (s .left) (t .left)) (dec-same formula-discrete (s .right) (t .right))))
 
 unfoldable pub counted? : (k : Kind) (ss : List Sequent) (ds : List Added) → Dec (Counted k ss ds)
 unfolding dec-and kind-discrete
@@ -42,12 +46,16 @@ schema? t F premises s = step (fits? (t .form) F)
     step (no n) = no (λ i. n (i .first, i .second, i .fits))
     step (yes p) =
         let m = meant F (p .0) (p .1) in
-        dec-map (λ h. schema-iff (p .2) .1 (record { counted = h .0; left = h .1 .0; right = h .1 .1 })) (λ i. let h = schema-iff (p .2) .0 i in (h .counted, (h .left, h .right))) (dec-and (counted? (t .kind) rows added) (dec-and (shared? formula-discrete (lefts m rows added)) (shared? formula-discrete (rights m rows added))))
+        dec-map (λ h. schema-iff (p .2) .1 (record { counted = h .0; left = h .1 .0; right = h .1 .1 }))
+        (λ i. let h = schema-iff (p .2) .0 i in (h .counted, (h .left, h .right)))
+        (dec-and (counted? (t .kind) rows added) (dec-and (shared? formula-discrete (lefts m rows added)) (shared? formula-discrete (rights m rows added))))
 
 -- whether a formula is made of an atom in a way that keeps the atom
 unfoldable pub of-atom? : (c : ℕ → Formula) → ((p : ℕ) → p ∈ atomsOf (c p)) → (F : Formula) → Dec ((p : ℕ) × (F ≡ c p))
 unfolding dec-map dec-some formula-discrete
-of-atom? c kept F = dec-map (λ s. (s .0, s .2)) (λ s. (s .0, subst (λ G. s .0 ∈ atomsOf G) (sym (s .1)) (kept (s .0)), s .1)) (dec-some (λ p. formula-discrete F (c p)) (atomsOf F))
+of-atom? c kept F =
+    dec-map (λ s. (s .0, s .2)) (λ s. (s .0, subst (λ G. s .0 ∈ atomsOf G) (sym (s .1)) (kept (s .0)), s .1))
+    (dec-some (λ p. formula-discrete F (c p)) (atomsOf F))
 
 unfoldable pub default? : (F : Formula) (premises : List Sequent) (s : Sequent) → Dec (DefaultInstance F premises s)
 unfolding of-atom? dec-map dec-and dec-not dec-all dec-in kind-discrete formula-discrete
@@ -59,7 +67,8 @@ default? F [] s = step (of-atom? (λ p. neg (atom p)) (λ p. List·Memᴰ·head 
     step (yes a) =
         dec-map (λ h. default-iff .1 (record { p = a .0; principal = a .1; kind = h .0; only-atoms = h .1 .0; not-left = h .1 .1 .0; right = h .1 .1 .1 }))
         (λ i. let h = default-iff .0 i in (h .kind, (h .only-atoms, (λ m. h .not-left (Memᴰ·cast (cc) m), h .right))))
-        (dec-and (kind-discrete (s .kind) elk) (dec-and (dec-all (of-atom? atom (λ p. List·Memᴰ·head refl)) (s .left)) (dec-and (dec-not (dec-in formula-discrete (atom (a .0)) (s .left))) (dec-in formula-discrete F (s .right)))))
+        (dec-and (kind-discrete (s .kind) elk) (dec-and (dec-all (of-atom? atom (λ p. List·Memᴰ·head refl)) (s .left))
+        (dec-and (dec-not (dec-in formula-discrete (atom (a .0)) (s .left))) (dec-in formula-discrete F (s .right)))))
 
 unfoldable pub cut? : (F : Formula) (premises : List Sequent) (s : Sequent) → Dec (CutInstance F premises s)
 unfolding dec-map dec-and dec-not dec-implies dec-all dec-in dec-part shared? kind-discrete formula-discrete
@@ -67,9 +76,21 @@ cut? F [] u = no (λ i. i .above)
 cut? F (s ∷ []) u = no (λ i. i .above .1)
 cut? F (s ∷ t ∷ v ∷ vs) u = no (λ i. i .above .1 .1)
 cut? F (s ∷ t ∷ []) u =
-    dec-map (λ h. cut-iff .1 (record { kinds = h .0; left = h .1 .0; principal = h .1 .1 .0; first-right = h .1 .1 .1 .0; second-right = h .1 .1 .1 .1 .0; both-right = h .1 .1 .1 .1 .1 }))
+    dec-map (λ h. cut-iff .1
+    (record {
+      kinds = h .0;
+      left = h .1 .0;
+      principal = h .1 .1 .0;
+      first-right = h .1 .1 .1 .0;
+      second-right = h .1 .1 .1 .1 .0;
+      both-right = h .1 .1 .1 .1 .1;
+    }))
     (λ i. let h = cut-iff .0 i in (h .kinds, (h .left, (h .principal, (h .first-right, (h .second-right, h .both-right))))))
-    (dec-and (dec-and (elk? s) (dec-and (elk? t) (elk? u))) (dec-and (shared? formula-discrete (cutLefts F s t u)) (dec-and (dec-in formula-discrete F (s .right)) (dec-and (dec-all (λ G. dec-implies (dec-not (formula-discrete G F)) (dec-in formula-discrete G (u .right))) (s .right)) (dec-and (dec-part formula-discrete (t .right) (u .right)) (dec-part formula-discrete (u .right) (s .right ++ t .right)))))))
+    (dec-and (dec-and (elk? s) (dec-and (elk? t) (elk? u)))
+    (dec-and (shared? formula-discrete (cutLefts F s t u))
+    (dec-and (dec-in formula-discrete F (s .right))
+    (dec-and (dec-all (λ G. dec-implies (dec-not (formula-discrete G F)) (dec-in formula-discrete G (u .right))) (s .right))
+    (dec-and (dec-part formula-discrete (t .right) (u .right)) (dec-part formula-discrete (u .right) (s .right ++ t .right)))))))
   where
     elk? : (v : Sequent) → Dec (v .kind ≡ elk)
     elk? v = kind-discrete (v .kind) elk
@@ -103,7 +124,9 @@ right-literal? (imp A B) = no (λ r. elim r [ ])
 -- it is enough to look at the atoms that occur
 unfoldable pub consistent? : (L : List Formula) → Dec ((p : ℕ) → atom p ∈ L → neg (atom p) ∈ L → ⊥)
 unfolding dec-map dec-all dec-implies dec-not dec-in formula-discrete
-consistent? L = dec-map (λ h p m. h p (occurs m p (List·Memᴰ·head refl)) m) (λ h p k. h p) (dec-all (λ p. dec-implies (dec-in formula-discrete (atom p) L) (dec-not (dec-in formula-discrete (neg (atom p)) L))) (atomsIn L))
+consistent? L =
+    dec-map (λ h p m. h p (occurs m p (List·Memᴰ·head refl)) m) (λ h p k. h p)
+    (dec-all (λ p. dec-implies (dec-in formula-discrete (atom p) L) (dec-not (dec-in formula-discrete (neg (atom p)) L))) (atomsIn L))
 
 unfoldable pub initial? : (premises : List Sequent) (s : Sequent) → Dec (InitialInstance premises s)
 unfolding dec-map dec-and dec-not dec-all dec-in kind-discrete formula-discrete left-literal? right-literal? consistent?
@@ -111,7 +134,10 @@ initial? (t ∷ ts) s = no (λ i. i .above)
 initial? [] s =
     dec-map (λ h. initial-iff .1 (record { kind = h .0; lefts = h .1 .0; rights = h .1 .1 .0; apart = h .1 .1 .1 .0; consistent = h .1 .1 .1 .1 }))
     (λ i. let h = initial-iff .0 i in (h .kind, (h .lefts, (h .rights, (h .apart, h .consistent)))))
-    (dec-and (kind-discrete (s .kind) refutation) (dec-and (dec-all left-literal? (s .left)) (dec-and (dec-all right-literal? (s .right)) (dec-and (dec-all (λ F. dec-not (dec-in formula-discrete F (s .right))) (s .left)) (consistent? (s .left))))))
+    (dec-and (kind-discrete (s .kind) refutation)
+    (dec-and (dec-all left-literal? (s .left))
+    (dec-and (dec-all right-literal? (s .right))
+    (dec-and (dec-all (λ F. dec-not (dec-in formula-discrete F (s .right))) (s .left)) (consistent? (s .left))))))
 
 unfoldable pub rising? : (ps : List ℕ) → Dec (Rising ps)
 unfolding dec-and decLt
@@ -130,9 +156,21 @@ unstable? (s ∷ []) u = no (λ i. i .above .1)
 unstable? (s ∷ t ∷ v ∷ vs) u = no (λ i. i .above .1 .1)
 unstable? (s ∷ t ∷ []) u =
     let c = choiceOf (s .right) in
-    dec-map (λ h. unstable-iff .1 (record { kind = h .0; rising = h .1 .0; atoms = h .1 .1 .0; member = h .1 .1 .1 .0 .0; not-empty = h .1 .1 .1 .0 .1; derived = h .1 .1 .1 .1 .0; refuted = h .1 .1 .1 .1 .1 }))
+    dec-map (λ h. unstable-iff .1
+    (record {
+      kind = h .0;
+      rising = h .1 .0;
+      atoms = h .1 .1 .0;
+      member = h .1 .1 .1 .0 .0;
+      not-empty = h .1 .1 .1 .0 .1;
+      derived = h .1 .1 .1 .1 .0;
+      refuted = h .1 .1 .1 .1 .1;
+    }))
     (λ i. let h = unstable-iff .0 i in (h .kind, (h .rising, (h .atoms, ((h .member, h .not-empty), (h .derived, h .refuted))))))
-    (dec-and (kind-discrete (u .kind) elk) (dec-and (rising? (domain c)) (dec-and (dec-same ℕ-discrete (domain c) (atomsIn (u .left))) (dec-and (inhabited? (chosen c)) (dec-and (same? s (u .left ⇒ joined (map literal c) ∷ [])) (same? t (map fixed c ++ u .left ⨾ joined (map excluded-middle (chosen c)) ∷ [])))))))
+    (dec-and (kind-discrete (u .kind) elk)
+    (dec-and (rising? (domain c)) (dec-and (dec-same ℕ-discrete (domain c) (atomsIn (u .left)))
+    (dec-and (inhabited? (chosen c))
+    (dec-and (same? s (u .left ⇒ joined (map literal c) ∷ [])) (same? t (map fixed c ++ u .left ⨾ joined (map excluded-middle (chosen c)) ∷ [])))))))
 
 unfoldable pub instance-of? : (e : Entry) (F : Option Formula) (premises : List Sequent) (s : Sequent) → Dec (InstanceOf e F premises s)
 unfolding schema? default? cut? unstable? initial?

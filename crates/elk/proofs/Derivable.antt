@@ -8,7 +8,8 @@ use Rattle.equilibrium.specs.Formula.{Formula, atom, neg, atomsIn}
 use Rattle.equilibrium.specs.Meaning.{_∈_, _⊆_, _≈_}
 use Rattle.elk.specs.Sequent.{Sequent, _⇒_, _⨾_, Same, AllSame}
 use Rattle.elk.specs.Rules.{Rule, rcut, unst, xini, Fits, Entry, schema, default, cut, unstable, initial, entry}
-use Rattle.elk.specs.Instance.{meant, filled, Choice, domain, chosen, literal, fixed, excluded-middle, joined, Rising, LeftLiteral, RightLiteral, InstanceOf, Instance}
+use Rattle.elk.specs.Instance.{meant, filled, Choice, domain, chosen, literal, fixed, excluded-middle}
+use Rattle.elk.specs.Instance.{joined, Rising, LeftLiteral, RightLiteral, InstanceOf, Instance}
 use Rattle.elk.specs.Derivation.{Derivation, start, row, EndsIn}
 use Rattle.elk.proofs.Steps.{same-refl, same-trans, All, formOf, Keeps}
 
@@ -20,7 +21,15 @@ pub record Derivable (s : Sequent) : Type 0 where
   pub ends : Same last s
 
 pub ends-in-iff : {L R : List Formula} → EndsIn L R ↔ Derivable (L ⇒ R)
-ends-in-iff = (λ d. record { last = d .last; earlier = d .earlier; derivation = d .derivation; ends = d .ends }, λ d. record { last = d .last; earlier = d .earlier; derivation = d .derivation; ends = d .ends })
+ends-in-iff = (
+  λ d. record {
+    last = d .last;
+    earlier = d .earlier;
+    derivation = d .derivation;
+    ends = d .ends;
+  },
+  λ d. record { last = d .last; earlier = d .earlier; derivation = d .derivation; ends = d .ends },
+)
 
 -- being derivable is a matter of the sides as sets
 pub derivable-same : {s t : Sequent} → Same s t → Derivable s → Derivable t
@@ -44,10 +53,19 @@ gather [] d = record { rows = []; derivation = start; found = []; inside = λ s 
 gather (s ∷ ss) d = add (d .0) (gather ss (d .1))
   where
     add : Derivable s → Gathered ss → Gathered (s ∷ ss)
-    add e g = record { rows = (e .last ∷ e .earlier) ++ g .rows; derivation = join (e .derivation) (g .derivation); found = e .last ∷ g .found; inside = λ t m. ⊎-elim (λ k. List·Memᴰ·head k) (λ k. Memᴰ·append-right (e .last ∷ e .earlier) (g .inside t k)) (List·Memᴰ·cases-cons m); same = (e .ends, g .same) }
+    add e g =
+        record {
+          rows = (e .last ∷ e .earlier) ++ g .rows;
+          derivation = join (e .derivation) (g .derivation);
+          found = e .last ∷ g .found;
+          inside =
+              λ t m. ⊎-elim (λ k. List·Memᴰ·head k) (λ k. Memᴰ·append-right (e .last ∷ e .earlier) (g .inside t k)) (List·Memᴰ·cases-cons m);
+          same = (e .ends, g .same);
+        }
 
 -- one more row, with premises that are derivable
-by-instance : (r : Rule) (F : Option Formula) (premises : List Sequent) {s : Sequent} → All Derivable premises → ((found : List Sequent) → AllSame found premises → Instance r F found s) → Derivable s
+by-instance : (r : Rule) (F : Option Formula) (premises : List Sequent) {s : Sequent}
+    → All Derivable premises → ((found : List Sequent) → AllSame found premises → Instance r F found s) → Derivable s
 by-instance r F premises {s} d i = last (gather premises d)
   where
     last : Gathered premises → Derivable s
@@ -57,18 +75,28 @@ by-instance r F premises {s} d i = last (gather premises d)
 pub by-rule : (r : Rule) {F G H : Formula} → Fits (formOf (entry r)) F G H → (L R : List Formula) → Keeps Derivable (entry r) F G H L R
 by-rule r {F} {G} {H} f L R = go (entry r) (λ ps s i. i) f
   where
-    go : (e : Entry) → ((premises : List Sequent) (s : Sequent) → InstanceOf e (some F) premises s → Instance r (some F) premises s) → Fits (formOf e) F G H → Keeps Derivable e F G H L R
-    go (schema t) up f = λ d. by-instance r (some F) (map (filled (meant F G H) L R (t .kind)) (t .premises)) d (λ found e. up found _ (record { first = G; second = H; fits = f; L = L; R = R; above = e; below = same-refl }))
+    go : (e : Entry) → ((premises : List Sequent) (s : Sequent) → InstanceOf e (some F) premises s → Instance r (some F) premises s)
+        → Fits (formOf e) F G H → Keeps Derivable e F G H L R
+    go (schema t) up f =
+        λ d. by-instance r (some F) (map (filled (meant F G H) L R (t .kind)) (t .premises)) d
+        (λ found e. up found _ (record { first = G; second = H; fits = f; L = L; R = R; above = e; below = same-refl }))
     go default up f = tt
     go cut up f = tt
     go unstable up f = tt
     go initial up f = tt
 
 pub by-cut : {F : Formula} {L R Q : List Formula} → Derivable (L ⇒ F ∷ R) → Derivable (F ∷ L ⇒ Q) → Derivable (L ⇒ R ++ Q)
-by-cut {F} {L} {R} {Q} d e = by-instance rcut (some F) ((L ⇒ F ∷ R) ∷ (F ∷ L ⇒ Q) ∷ []) (d, (e, tt)) (λ found k. record { L = L; R = R; Q = Q; above = k; below = same-refl })
+by-cut {F} {L} {R} {Q} d e =
+    by-instance rcut (some F) ((L ⇒ F ∷ R) ∷ (F ∷ L ⇒ Q) ∷ []) (d, (e, tt)) (λ found k. record { L = L; R = R; Q = Q; above = k; below = same-refl })
 
-pub by-unstable : (c : Choice) {p : ℕ} {L R : List Formula} → Rising (domain c) → domain c ≈ atomsIn L → p ∈ chosen c → Derivable (L ⇒ joined (map literal c) ∷ []) → Derivable (map fixed c ++ L ⨾ joined (map excluded-middle (chosen c)) ∷ []) → Derivable (L ⇒ R)
-by-unstable c {p} {L} {R} rising atoms m d e = by-instance unst none ((L ⇒ joined (map literal c) ∷ []) ∷ (map fixed c ++ L ⨾ joined (map excluded-middle (chosen c)) ∷ []) ∷ []) (d, (e, tt)) (λ found k. record { L = L; R = R; choice = c; rising = rising; atoms = atoms; member = p; not-empty = m; above = k; below = same-refl })
+pub by-unstable : (c : Choice) {p : ℕ} {L R : List Formula} → Rising (domain c) → domain c ≈ atomsIn L → p ∈ chosen c
+    → Derivable (L ⇒ joined (map literal c) ∷ []) → Derivable (map fixed c ++ L ⨾ joined (map excluded-middle (chosen c)) ∷ []) → Derivable (L ⇒ R)
+by-unstable c {p} {L} {R} rising atoms m d e =
+    by-instance unst none ((L ⇒ joined (map literal c) ∷ []) ∷ (map fixed c ++ L ⨾ joined (map excluded-middle (chosen c)) ∷ []) ∷ []) (d, (e, tt))
+    (λ found k. record { L = L; R = R; choice = c; rising = rising; atoms = atoms; member = p; not-empty = m; above = k; below = same-refl })
 
-pub by-initial : {L R : List Formula} → ((F : Formula) → F ∈ L → LeftLiteral F) → ((F : Formula) → F ∈ R → RightLiteral F) → ((F : Formula) → F ∈ L → F ∈ R → ⊥) → ((p : ℕ) → atom p ∈ L → neg (atom p) ∈ L → ⊥) → Derivable (L ⨾ R)
-by-initial {L} {R} lefts rights apart consistent = by-instance xini none [] tt (λ found k. record { L = L; R = R; lefts = lefts; rights = rights; apart = apart; consistent = consistent; above = k; below = same-refl })
+pub by-initial : {L R : List Formula} → ((F : Formula) → F ∈ L → LeftLiteral F) → ((F : Formula) → F ∈ R → RightLiteral F)
+    → ((F : Formula) → F ∈ L → F ∈ R → ⊥) → ((p : ℕ) → atom p ∈ L → neg (atom p) ∈ L → ⊥) → Derivable (L ⨾ R)
+by-initial {L} {R} lefts rights apart consistent =
+    by-instance xini none [] tt
+    (λ found k. record { L = L; R = R; lefts = lefts; rights = rights; apart = apart; consistent = consistent; above = k; below = same-refl })

@@ -3,7 +3,8 @@
 use Prim.Native.Nat.{ℕ}
 use mathlib.Core.Path.{_≡_, refl, sym, _∙_, ap, ap₂, subst}
 use mathlib.Core.Bool.{Bool, true, false}
-use mathlib.Core.List.{List, [], _∷_, _++_, map, List·Memᴰ·not-nil, List·Memᴰ·head, List·Memᴰ·tail, List·Memᴰ·cases-cons, List·Memᴰ·append-cases, List·Memᴰ·eq-of-singleton, Memᴰ·cast, Memᴰ·append-left, Memᴰ·append-right}
+use mathlib.Core.List.{List, [], _∷_, _++_, map, List·Memᴰ·not-nil, List·Memᴰ·head, List·Memᴰ·tail, List·Memᴰ·cases-cons}
+use mathlib.Core.List.{List·Memᴰ·append-cases, List·Memᴰ·eq-of-singleton, Memᴰ·cast, Memᴰ·append-left, Memᴰ·append-right}
 use mathlib.Core.Logic.{⊎-elim, _↔_}
 use Rattle.equilibrium.specs.Formula.{Formula, falsum, atom, neg, conj, disj, imp, atomsOf, atomsIn}
 use Rattle.equilibrium.specs.Meaning.{_∈_, _⊆_, _≈_}
@@ -11,7 +12,8 @@ use Rattle.equilibrium.proofs.Sets.{those, in-those, dec-in, ≈-refl, ≈-sym,
 use Rattle.equilibrium.proofs.Satisfaction.{occurs}
 use Rattle.elk.specs.Sequent.{Kind, elk, refutation, Sequent, _⇒_, _⨾_, Same, AllSame}
 use Rattle.elk.specs.Rules.{Fits, Part, Added, Schema}
-use Rattle.elk.specs.Instance.{meant, filled, SchemaInstance, DefaultInstance, CutInstance, InitialInstance, LeftLiteral, RightLiteral, UnstableInstance, Choice, domain, chosen, literal, fixed, excluded-middle, joined, Rising}
+use Rattle.elk.specs.Instance.{meant, filled, SchemaInstance, DefaultInstance, CutInstance, InitialInstance, LeftLiteral, RightLiteral}
+use Rattle.elk.specs.Instance.{UnstableInstance, Choice, domain, chosen, literal, fixed, excluded-middle, joined, Rising}
 use Rattle.elk.specs.CommonSets.{Side, Shared, sides}
 use Rattle.elk.proofs.Equality.{formula-discrete}
 use Rattle.elk.proofs.CommonSets.{Common, every-cons, common-iff}
@@ -32,13 +34,19 @@ module _ (m : Part → Formula) where
   rights = sides (λ s. s .right) (λ d. map m (d .right))
 
 -- rows are L and R filled in if they are as many, of the kind, and L and R are common to their sides
-filled-iff : (m : Part → Formula) {L R : List Formula} (k : Kind) (ss : List Sequent) (ds : List Added) → AllSame ss (map (filled m L R k) ds) ↔ (Counted k ss ds × Common (lefts m ss ds) L × Common (rights m ss ds) R)
+filled-iff : (m : Part → Formula) {L R : List Formula} (k : Kind) (ss : List Sequent) (ds : List Added)
+    → AllSame ss (map (filled m L R k) ds) ↔ (Counted k ss ds × Common (lefts m ss ds) L × Common (rights m ss ds) R)
 filled-iff m k [] [] = (λ h. (tt, (λ s i. absurd (List·Memᴰ·not-nil i)), λ s i. absurd (List·Memᴰ·not-nil i)), λ h. tt)
 filled-iff m k [] (d ∷ ds) = (λ h. absurd h, λ h. h .0)
 filled-iff m k (s ∷ ss) [] = (λ h. absurd h, λ h. h .0)
 filled-iff m k (s ∷ ss) (d ∷ ds) =
-    let rest = filled-iff m k ss ds in
-    (λ h. let r = rest .0 (h .1) in ((h .0 .kind, r .0), every-cons .1 (h .0 .left, r .1), every-cons .1 (h .0 .right, r .2)), λ h. (record { kind = h .0 .0; left = every-cons .0 (h .1) .0; right = every-cons .0 (h .2) .0 }, rest .1 (h .0 .1, every-cons .0 (h .1) .1, every-cons .0 (h .2) .1)))
+    let rest = filled-iff m k ss ds in (
+      λ h. let r = rest .0 (h .1) in ((h .0 .kind, r .0), every-cons .1 (h .0 .left, r .1), every-cons .1 (h .0 .right, r .2)),
+      λ h. (
+        record { kind = h .0 .0; left = every-cons .0 (h .1) .0; right = every-cons .0 (h .2) .0 },
+        rest .1 (h .0 .1, every-cons .0 (h .1) .1, every-cons .0 (h .2) .1),
+      ),
+    )
 
 -- a rule that adds to L and R, tested on the row and its premises; `m` is what its parts mean
 pub record SchemaTest (t : Schema) (m : Part → Formula) (premises : List Sequent) (conclusion : Sequent) : Type 0 where
@@ -47,7 +55,8 @@ pub record SchemaTest (t : Schema) (m : Part → Formula) (premises : List Seque
   pub right : Shared (rights m (conclusion ∷ premises) (t .conclusion ∷ t .premises))
 
 -- where the principal formula has the parts G and H, the test is exact
-pub schema-iff : {t : Schema} {F G H : Formula} {premises : List Sequent} {conclusion : Sequent} → Fits (t .form) F G H → SchemaInstance t F premises conclusion ↔ SchemaTest t (meant F G H) premises conclusion
+pub schema-iff : {t : Schema} {F G H : Formula} {premises : List Sequent} {conclusion : Sequent}
+    → Fits (t .form) F G H → SchemaInstance t F premises conclusion ↔ SchemaTest t (meant F G H) premises conclusion
 schema-iff {t} {F} {G} {H} {premises} {conclusion} f = (to, from)
   where
     test : Formula × Formula → Type 0
@@ -56,7 +65,8 @@ schema-iff {t} {F} {G} {H} {premises} {conclusion} f = (to, from)
     to : SchemaInstance t F premises conclusion → test (G, H)
     to i =
         let h = filled-iff (meant F (i .first) (i .second)) (t .kind) (conclusion ∷ premises) (t .conclusion ∷ t .premises) .0 (i .below, i .above) in
-        subst test (fits-parts (i .fits) .0 ∙ sym (fits-parts f .0)) (record { counted = h .0; left = common-iff formula-discrete _ .0 (i .L, h .1); right = common-iff formula-discrete _ .0 (i .R, h .2) })
+        subst test (fits-parts (i .fits) .0 ∙ sym (fits-parts f .0))
+        (record { counted = h .0; left = common-iff formula-discrete _ .0 (i .L, h .1); right = common-iff formula-discrete _ .0 (i .R, h .2) })
 
     from : test (G, H) → SchemaInstance t F premises conclusion
     from k =
@@ -92,13 +102,18 @@ default-iff {F} {s} = (
     only-atoms = k .only-atoms;
     not-left = k .not-left;
     above = tt;
-    below = record { kind = k .kind; left = ≈-refl; right = (λ x m. List·Memᴰ·tail m, λ x m. ⊎-elim (λ (e : x ≡ F). Memᴰ·cast e (k .right)) (λ j. j) (List·Memᴰ·cases-cons m)) };
+    below = record {
+      kind = k .kind;
+      left = ≈-refl;
+      right = (λ x m. List·Memᴰ·tail m, λ x m. ⊎-elim (λ (e : x ≡ F). Memᴰ·cast e (k .right)) (λ j. j) (List·Memᴰ·cases-cons m));
+    };
   },
 )
 
 -- the left sides of `rcut`: L, L and L,A
 abbrev pub cutLefts : Formula → Sequent → Sequent → Sequent → List (Side Formula)
-cutLefts F first second conclusion = record { whole = conclusion .left; added = [] } ∷ record { whole = first .left; added = [] } ∷ record { whole = second .left; added = F ∷ [] } ∷ []
+cutLefts F first second conclusion =
+    record { whole = conclusion .left; added = [] } ∷ record { whole = first .left; added = [] } ∷ record { whole = second .left; added = F ∷ [] } ∷ []
 
 -- `rcut`, tested on the row and its two premises
 pub record CutTest (F : Formula) (first second conclusion : Sequent) : Type 0 where
@@ -119,11 +134,14 @@ cut-iff {F} {s} {t} {u} = (to, from)
         let c = i .below in
         record {
           kinds = (a .kind, (b .kind, c .kind));
-          left = common-iff formula-discrete _ .0 (i .L, every-cons .1 (c .left, every-cons .1 (a .left, every-cons .1 (b .left, λ x m. absurd (List·Memᴰ·not-nil m)))));
+          left = common-iff formula-discrete _ .0
+              (i .L, every-cons .1 (c .left, every-cons .1 (a .left, every-cons .1 (b .left, λ x m. absurd (List·Memᴰ·not-nil m)))));
           principal = a .right .1 F (List·Memᴰ·head refl);
           first-right = λ G m n. c .right .1 G (Memᴰ·append-left (i .Q) (⊎-elim (λ e. absurd (n e)) (λ j. j) (List·Memᴰ·cases-cons (a .right .0 G m))));
           second-right = λ G m. c .right .1 G (Memᴰ·append-right (i .R) (b .right .0 G m));
-          both-right = λ G m. ⊎-elim (λ j. Memᴰ·append-left (t .right) (a .right .1 G (List·Memᴰ·tail j))) (λ j. Memᴰ·append-right (s .right) (b .right .1 G j)) (List·Memᴰ·append-cases (i .R) (c .right .0 G m));
+          both-right =
+              λ G m. ⊎-elim (λ j. Memᴰ·append-left (t .right) (a .right .1 G (List·Memᴰ·tail j)))
+              (λ j. Memᴰ·append-right (s .right) (b .right .1 G j)) (List·Memᴰ·append-cases (i .R) (c .right .0 G m));
         }
 
     -- R is what the first premise shares with the row
@@ -142,8 +160,26 @@ cut-iff {F} {s} {t} {u} = (to, from)
           L = c .0;
           R = R;
           Q = t .right;
-          above = (record { kind = k .kinds .0; left = m .0; right = (λ G j. place G j (formula-discrete G F), λ G j. ⊎-elim (λ (e : G ≡ F). Memᴰ·cast e (k .principal)) (λ r. in-R G .0 r .0) (List·Memᴰ·cases-cons j)) }, (record { kind = k .kinds .1 .0; left = every-cons .0 (m .1) .0; right = ≈-refl }, tt));
-          below = record { kind = k .kinds .1 .1; left = l .0; right = (λ G j. ⊎-elim (λ a. Memᴰ·append-left (t .right) (in-R G .1 (a, j))) (Memᴰ·append-right R) (List·Memᴰ·append-cases (s .right) (k .both-right G j)), λ G j. ⊎-elim (λ r. in-R G .0 r .1) (k .second-right G) (List·Memᴰ·append-cases R j)) };
+          above = (
+            record {
+              kind = k .kinds .0;
+              left = m .0;
+              right = (
+                λ G j. place G j (formula-discrete G F),
+                λ G j. ⊎-elim (λ (e : G ≡ F). Memᴰ·cast e (k .principal)) (λ r. in-R G .0 r .0) (List·Memᴰ·cases-cons j),
+              );
+            },
+            (record { kind = k .kinds .1 .0; left = every-cons .0 (m .1) .0; right = ≈-refl }, tt),
+          );
+          below = record {
+            kind = k .kinds .1 .1;
+            left = l .0;
+            right = (
+              λ G j. ⊎-elim (λ a. Memᴰ·append-left (t .right) (in-R G .1 (a, j))) (Memᴰ·append-right R)
+                  (List·Memᴰ·append-cases (s .right) (k .both-right G j)),
+              λ G j. ⊎-elim (λ r. in-R G .0 r .1) (k .second-right G) (List·Memᴰ·append-cases R j),
+            );
+          };
         }
       where
         place : (G : Formula) → G ∈ s .right → Dec (G ≡ F) → G ∈ F ∷ R
@@ -160,8 +196,24 @@ pub record InitialTest (s : Sequent) : Type 0 where
 
 pub initial-iff : {s : Sequent} → InitialInstance [] s ↔ InitialTest s
 initial-iff {s} = (
-  λ i. let l = i .below .left .0 in let r = i .below .right .0 in record { kind = i .below .kind; lefts = λ F m. i .lefts F (l F m); rights = λ F m. i .rights F (r F m); apart = λ F m k. i .apart F (l F m) (r F k); consistent = λ p m k. i .consistent p (l _ m) (l _ k) },
-  λ k. record { L = s .left; R = s .right; lefts = k .lefts; rights = k .rights; apart = k .apart; consistent = k .consistent; above = tt; below = record { kind = k .kind; left = ≈-refl; right = ≈-refl } },
+  λ i. let l = i .below .left .0 in let r = i .below .right .0 in
+      record {
+        kind = i .below .kind;
+        lefts = λ F m. i .lefts F (l F m);
+        rights = λ F m. i .rights F (r F m);
+        apart = λ F m k. i .apart F (l F m) (r F k);
+        consistent = λ p m k. i .consistent p (l _ m) (l _ k);
+      },
+  λ k. record {
+    L = s .left;
+    R = s .right;
+    lefts = k .lefts;
+    rights = k .rights;
+    apart = k .apart;
+    consistent = k .consistent;
+    above = tt;
+    below = record { kind = k .kind; left = ≈-refl; right = ≈-refl };
+  },
 )
 
 -- the atoms of a formula that joins literals, each with whether it stands there as itself
@@ -199,7 +251,8 @@ choice-unique c (F ∷ Fs) e = ap literals (List·Memᴰ·eq-of-singleton (e .0 
 
 atoms-part : {L M : List Formula} → L ⊆ M → atomsIn L ⊆ atomsIn M
 atoms-part {L = []} s p m = absurd (List·Memᴰ·not-nil m)
-atoms-part {L = A ∷ L} s p m = ⊎-elim (occurs (s A (List·Memᴰ·head refl)) p) (atoms-part (λ B k. s B (List·Memᴰ·tail k)) p) (List·Memᴰ·append-cases (atomsOf A) m)
+atoms-part {L = A ∷ L} s p m =
+    ⊎-elim (occurs (s A (List·Memᴰ·head refl)) p) (atoms-part (λ B k. s B (List·Memᴰ·tail k)) p) (List·Memᴰ·append-cases (atomsOf A) m)
 
 append-part : {L M : List Formula} (K : List Formula) → L ⊆ M → K ++ L ⊆ K ++ M
 append-part {M} K s F m = ⊎-elim (Memᴰ·append-left M) (λ k. Memᴰ·append-right K (s F k)) (List·Memᴰ·append-cases K m)
@@ -216,7 +269,20 @@ pub record UnstableTest (c : Choice) (first second conclusion : Sequent) : Type 
 
 -- no choice but the one that is read off K can make the row an instance
 pub unstable-iff : {s t u : Sequent} → UnstableInstance (s ∷ t ∷ []) u ↔ UnstableTest (choiceOf (s .right)) s t u
-unstable-iff {s} {t} {u} = (to, λ k. record { L = u .left; R = u .right; choice = choiceOf (s .right); rising = k .rising; atoms = k .atoms; member = k .member; not-empty = k .not-empty; above = (k .derived, (k .refuted, tt)); below = record { kind = k .kind; left = ≈-refl; right = ≈-refl } })
+unstable-iff {s} {t} {u} = (
+  to,
+  λ k. record {
+    L = u .left;
+    R = u .right;
+    choice = choiceOf (s .right);
+    rising = k .rising;
+    atoms = k .atoms;
+    member = k .member;
+    not-empty = k .not-empty;
+    above = (k .derived, (k .refuted, tt));
+    below = record { kind = k .kind; left = ≈-refl; right = ≈-refl };
+  },
+)
   where
     to : UnstableInstance (s ∷ t ∷ []) u → UnstableTest (choiceOf (s .right)) s t u
     to i =
@@ -230,5 +296,10 @@ unstable-iff {s} {t} {u} = (to, λ k. record { L = u .left; R = u .right; choice
           member = i .member;
           not-empty = i .not-empty;
           derived = record { kind = a .kind; left = ≈-trans (a .left) (≈-sym l); right = a .right };
-          refuted = record { kind = b .kind; left = ≈-trans (b .left) (append-part (map fixed (i .choice)) (l .1), append-part (map fixed (i .choice)) (l .0)); right = b .right };
+          refuted =
+              record {
+                kind = b .kind;
+                left = ≈-trans (b .left) (append-part (map fixed (i .choice)) (l .1), append-part (map fixed (i .choice)) (l .0));
+                right = b .right;
+              };
         })

@@ -20,12 +20,58 @@ differ t = no (λ e. from-no (ℕ-discrete _ _) t (ap connective e))
 
 unfoldable pub formula-discrete : Discrete Formula
 unfolding ℕ-discrete differ dec-map dec-and
-formula-discrete falsum = elim [ falsum ↦ yes refl | atom q ↦ differ tt | neg C ↦ differ tt | conj C D ↦ differ tt | disj C D ↦ differ tt | imp C D ↦ differ tt ]
-formula-discrete (atom p) = elim [ falsum ↦ differ tt | atom q ↦ dec-map (λ e. cc) (λ e. cc) (ℕ-discrete p q) | neg C ↦ differ tt | conj C D ↦ differ tt | disj C D ↦ differ tt | imp C D ↦ differ tt ]
-formula-discrete (neg A) = elim [ falsum ↦ differ tt | atom q ↦ differ tt | neg C ↦ dec-map (λ e. cc) (λ e. cc) (formula-discrete A C) | conj C D ↦ differ tt | disj C D ↦ differ tt | imp C D ↦ differ tt ]
-formula-discrete (conj A B) = elim [ falsum ↦ differ tt | atom q ↦ differ tt | neg C ↦ differ tt | conj C D ↦ dec-map (λ e. cc) (λ e. (cc, cc)) (dec-and (formula-discrete A C) (formula-discrete B D)) | disj C D ↦ differ tt | imp C D ↦ differ tt ]
-formula-discrete (disj A B) = elim [ falsum ↦ differ tt | atom q ↦ differ tt | neg C ↦ differ tt | conj C D ↦ differ tt | disj C D ↦ dec-map (λ e. cc) (λ e. (cc, cc)) (dec-and (formula-discrete A C) (formula-discrete B D)) | imp C D ↦ differ tt ]
-formula-discrete (imp A B) = elim [ falsum ↦ differ tt | atom q ↦ differ tt | neg C ↦ differ tt | conj C D ↦ differ tt | disj C D ↦ differ tt | imp C D ↦ dec-map (λ e. cc) (λ e. (cc, cc)) (dec-and (formula-discrete A C) (formula-discrete B D)) ]
+formula-discrete falsum =
+    elim [ falsum ↦ yes refl | atom q ↦ differ tt | neg C ↦ differ tt | conj C D ↦ differ tt | disj C D ↦ differ tt | imp C D ↦ differ tt ]
+formula-discrete (atom p) =
+    elim [
+      | falsum ↦ differ tt
+      | atom q ↦ dec-map (λ e. cc) (λ e. cc)
+          (ℕ-discrete p q)
+      | neg C ↦ differ tt
+      | conj C D ↦ differ tt
+      | disj C D ↦ differ tt
+      | imp C D ↦ differ tt
+    ]
+formula-discrete (neg A) =
+    elim [
+      | falsum ↦ differ tt
+      | atom q ↦ differ tt
+      | neg C ↦ dec-map
+          (λ e. cc) (λ e. cc) (formula-discrete A C)
+      | conj C D ↦ differ tt
+      | disj C D ↦ differ tt
+      | imp C D ↦ differ tt
+    ]
+formula-discrete (conj A B) =
+    elim [
+      | falsum ↦ differ tt
+      | atom q ↦ differ tt
+      | neg C ↦ differ tt
+      | conj C D ↦ dec-map
+          (λ e. cc) (λ e. (cc, cc)) (dec-and (formula-discrete A C) (formula-discrete B D))
+      | disj C D ↦ differ tt
+      | imp C D ↦ differ tt
+    ]
+formula-discrete (disj A B) =
+    elim [
+      | falsum ↦ differ tt
+      | atom q ↦ differ tt
+      | neg C ↦ differ tt
+      | conj C D ↦ differ tt
+      | disj C D ↦ dec-map
+          (λ e. cc) (λ e. (cc, cc)) (dec-and (formula-discrete A C) (formula-discrete B D))
+      | imp C D ↦ differ tt
+    ]
+formula-discrete (imp A B) =
+    elim [
+      | falsum ↦ differ tt
+      | atom q ↦ differ tt
+      | neg C ↦ differ tt
+      | conj C D ↦ differ tt
+      | disj C D ↦ differ tt
+      | imp C D ↦ dec-map
+          (λ e. cc) (λ e. (cc, cc)) (dec-and (formula-discrete A C) (formula-discrete B D))
+    ]
 
 abbrev IsElk : Kind → Type 0
 IsElk elk = Unit {0}

@@ -14,7 +14,9 @@ use Rattle.equilibrium.specs.Formula.{Formula}
 use Rattle.equilibrium.specs.Meaning.{_∈_, _⊆_}
 use Rattle.equilibrium.proofs.Sets.{from-yes, dec-not, dec-implies, dec-all, ≈-refl}
 use Rattle.elk.specs.Sequent.{Sequent, AllSame}
-use Rattle.elk.specs.Rules.{Rule, def, same, andl, andr, wr, bot, orr, orl, notl, impr, impl, notr, rcut, unst, xini, xnnl, xnnr, xandl, xandr1, xandr2, xorr, xorl1, xorl2, ximpl1, ximpl2, ximpl3, ximpr1, ximpr2, xnimpl, xnimpr1, xnimpr2, xnandl1, xnandl2, xnandr, xnorl, xnorr1, xnorr2, Entry, schema, default, cut, unstable, initial, hasPrincipal, premiseKinds, kindOf, rules, codeOf, wordOf}
+use Rattle.elk.specs.Rules.{Rule, def, same, andl, andr, wr, bot, orr, orl, notl, impr, impl, notr, rcut, unst, xini, xnnl, xnnr, xandl, xandr1, xandr2}
+use Rattle.elk.specs.Rules.{xorr, xorl1, xorl2, ximpl1, ximpl2, ximpl3, ximpr1, ximpr2, xnimpl, xnimpr1, xnimpr2, xnandl1, xnandl2, xnandr, xnorl, xnorr1}
+use Rattle.elk.specs.Rules.{xnorr2, Entry, schema, default, cut, unstable, initial, hasPrincipal, premiseKinds, kindOf, rules, codeOf, wordOf}
 use Rattle.elk.specs.Instance.{InstanceOf, Instance}
 use Rattle.elk.specs.Derivation.{Derivation, start, row, EndsIn}
 use Rattle.elk.proofs.CommonSets.{every-cons}
@@ -49,8 +51,10 @@ same-kinds (s ∷ ss) [] h = absurd h
 same-kinds (s ∷ ss) (t ∷ ts) h = ap₂ _∷_ (h .0 .kind) (same-kinds ss ts (h .1))
 
 -- every instance has what number 10 asks, so that 11 is left for the sets alone
-pub instance-shaped : (e : Entry) (F : Option Formula) {premises : List Sequent} {conclusion : Sequent} → InstanceOf e F premises conclusion → Shaped e F premises conclusion
-instance-shaped (schema t) (some F) {premises} i = record { principal = (λ x. x, λ x. x); above = same-kinds premises _ (i .above) ∙ map-map {B = Sequent} _ _ (t .premises); below = i .below .kind }
+pub instance-shaped : (e : Entry) (F : Option Formula) {premises : List Sequent} {conclusion : Sequent}
+    → InstanceOf e F premises conclusion → Shaped e F premises conclusion
+instance-shaped (schema t) (some F) {premises} i =
+    record { principal = (λ x. x, λ x. x); above = same-kinds premises _ (i .above) ∙ map-map {B = Sequent} _ _ (t .premises); below = i .below .kind }
 instance-shaped (schema t) none i = absurd i
 instance-shaped default (some F) {premises} i = record { principal = (λ x. x, λ x. x); above = same-kinds premises _ (i .above); below = i .below .kind }
 instance-shaped default none i = absurd i
@@ -76,7 +80,11 @@ unfolding is-instance? dec-all ℕ-discrete
 whole-file-derives = record {
   last = _;
   earlier = _;
-  derivation = derived whole-file (every-cons .1 (second, every-cons .1 (first, nothing)), (nothing, (every-cons .1 (first, nothing), (every-cons .1 (first, nothing), (nothing, tt))))) (from-yes (dec-all is-instance? whole-file) tt);
+  derivation =
+      derived whole-file (
+        every-cons .1 (second, every-cons .1 (first, nothing)),
+        (nothing, (every-cons .1 (first, nothing), (every-cons .1 (first, nothing), (nothing, tt)))),
+      ) (from-yes (dec-all is-instance? whole-file) tt);
   ends = record { kind = refl; left = ≈-refl; right = ≈-refl };
 }
   where
@@ -100,7 +108,49 @@ rules-count = refl
 
 -- a rule's code is its place less one
 pub rule-at-code : (r : Rule) → at rules (codeOf r) ≡ some r
-rule-at-code r = elim r [ def ↦ refl | same ↦ refl | andl ↦ refl | andr ↦ refl | wr ↦ refl | bot ↦ refl | orr ↦ refl | orl ↦ refl | notl ↦ refl | impr ↦ refl | impl ↦ refl | notr ↦ refl | rcut ↦ refl | unst ↦ refl | xini ↦ refl | xnnl ↦ refl | xnnr ↦ refl | xandl ↦ refl | xandr1 ↦ refl | xandr2 ↦ refl | xorr ↦ refl | xorl1 ↦ refl | xorl2 ↦ refl | ximpl1 ↦ refl | ximpl2 ↦ refl | ximpl3 ↦ refl | ximpr1 ↦ refl | ximpr2 ↦ refl | xnimpl ↦ refl | xnimpr1 ↦ refl | xnimpr2 ↦ refl | xnandl1 ↦ refl | xnandl2 ↦ refl | xnandr ↦ refl | xnorl ↦ refl | xnorr1 ↦ refl | xnorr2 ↦ refl ]
+rule-at-code r =
+    elim r [
+      | def ↦ refl
+      | same ↦ refl
+      | andl ↦ refl
+      | andr ↦ refl
+      | wr ↦ refl
+      | bot ↦ refl
+      | orr ↦ refl
+      | orl ↦ refl
+      | notl ↦ refl
+      | impr ↦ refl
+      | impl
+          ↦ refl
+      | notr ↦ refl
+      | rcut ↦ refl
+      | unst ↦ refl
+      | xini ↦ refl
+      | xnnl ↦ refl
+      | xnnr ↦ refl
+      | xandl ↦ refl
+      | xandr1 ↦ refl
+      | xandr2 ↦ refl
+      | xorr ↦
+          refl
+      | xorl1 ↦ refl
+      | xorl2 ↦ refl
+      | ximpl1 ↦ refl
+      | ximpl2 ↦ refl
+      | ximpl3 ↦ refl
+      | ximpr1 ↦ refl
+      | ximpr2 ↦ refl
+      | xnimpl
+          ↦ refl
+      | xnimpr1 ↦ refl
+      | xnimpr2 ↦ refl
+      | xnandl1 ↦ refl
+      | xnandl2 ↦ refl
+      | xnandr ↦ refl
+      | xnorl ↦ refl
+      | xnorr1 ↦ refl
+      | xnorr2 ↦ refl
+    ]
 
 pub every-rule : (r : Rule) → r ∈ rules
 every-rule r = found rules (codeOf r) (rule-at-code r)
@@ -118,5 +168,7 @@ test? false = no (λ t. t)
 pub words-differ : (r q : Rule) → wordOf r ≡ wordOf q → r ≡ q
 unfolding dec-all dec-implies test? ℕ-discrete
 words-differ r q e =
-    let code : codeOf r ≡ codeOf q = from-yes (dec-all (λ s. dec-all (λ t. dec-implies (test? (eqt (wordOf s) (wordOf t))) (ℕ-discrete (codeOf s) (codeOf t))) rules) rules) tt r (every-rule r) q (every-rule q) (rw (← e) (eqt-refl (wordOf r))) in
+    let code : codeOf r ≡ codeOf q = from-yes
+    (dec-all (λ s. dec-all (λ t. dec-implies (test? (eqt (wordOf s) (wordOf t))) (ℕ-discrete (codeOf s) (codeOf t))) rules) rules) tt r
+    (every-rule r) q (every-rule q) (rw (← e) (eqt-refl (wordOf r))) in
     cc (rule-at-code r, rule-at-code q)

@@ -3,7 +3,9 @@
 use mathlib.Core.Path.{_≡_, refl, sym, subst}
 use Rattle.equilibrium.specs.Formula.{Formula, falsum, atom, neg, conj, disj, imp}
 use Rattle.equilibrium.proofs.Sets.{dec-map}
-use Rattle.elk.specs.Rules.{Form, any, falsity, negation, conjunction, disjunction, implication, double-negation, negated-conjunction, negated-disjunction, negated-implication, Fits, is-any, is-falsity, is-negation, is-conjunction, is-disjunction, is-implication, is-double-negation, is-negated-conjunction, is-negated-disjunction, is-negated-implication}
+use Rattle.elk.specs.Rules.{Form, any, falsity, negation, conjunction, disjunction, implication, double-negation, negated-conjunction}
+use Rattle.elk.specs.Rules.{negated-disjunction, negated-implication, Fits, is-any, is-falsity, is-negation, is-conjunction, is-disjunction}
+use Rattle.elk.specs.Rules.{is-implication, is-double-negation, is-negated-conjunction, is-negated-disjunction, is-negated-implication}
 use Rattle.elk.proofs.Equality.{formula-discrete}
 
 -- what stands before and behind the connective; anything where there is none

@@ -34,10 +34,16 @@ InOrder ps = (qs : List ℕ) × Rising qs × (qs ≈ ps)
 -- one more atom, at its place
 put : (p : ℕ) (qs : List ℕ) → Rising qs → InOrder (p ∷ qs)
 put p [] r = (p ∷ [], tt, ≈-refl)
-put p (q ∷ qs) r = dite (decLt p q) (λ below. (p ∷ q ∷ qs, (below, r), ≈-refl)) (λ n. dite (ℕ-discrete p q) (λ e. (q ∷ qs, r, ≈-sym (cons-again (List·Memᴰ·head e)))) (λ k. later n k (put p qs (rising-tail q qs r))))
+put p (q ∷ qs) r =
+    dite (decLt p q) (λ below. (p ∷ q ∷ qs, (below, r), ≈-refl))
+    (λ n. dite (ℕ-discrete p q) (λ e. (q ∷ qs, r, ≈-sym (cons-again (List·Memᴰ·head e)))) (λ k. later n k (put p qs (rising-tail q qs r))))
   where
     later : (p < q → ⊥) → (p ≡ q → ⊥) → InOrder (p ∷ qs) → InOrder (p ∷ q ∷ qs)
-    later n k o = (q ∷ o .0, rising-cons q (o .0) (λ s m. ⊎-elim (λ (e : s ≡ p). omega arith) (rising-least q qs r) (List·Memᴰ·cases-cons (o .2 .0 s m))) (o .1), ≈-trans (cons-same (o .2)) cons-swap)
+    later n k o = (
+      q ∷ o .0,
+      rising-cons q (o .0) (λ s m. ⊎-elim (λ (e : s ≡ p). omega arith) (rising-least q qs r) (List·Memᴰ·cases-cons (o .2 .0 s m))) (o .1),
+      ≈-trans (cons-same (o .2)) cons-swap,
+    )
 
 pub in-order : (ps : List ℕ) → InOrder ps
 in-order [] = ([], tt, ≈-refl)

@@ -4,7 +4,9 @@ use mathlib.Core.List.{List, [], _∷_}
 use mathlib.Core.Option.{Option, none, some}
 use Rattle.equilibrium.specs.Formula.{Formula, falsum, atom, neg, conj, disj, imp}
 use Rattle.elk.specs.Sequent.{Sequent, _⇒_, _⨾_}
-use Rattle.elk.specs.Rules.{Rule, def, same, andl, andr, wr, bot, orr, orl, notl, impr, impl, notr, rcut, unst, xini, xnnl, xnnr, xandl, xandr1, xandr2, xorr, xorl1, xorl2, ximpl1, ximpl2, ximpl3, ximpr1, ximpr2, xnimpl, xnimpr1, xnimpr2, xnandl1, xnandl2, xnandr, xnorl, xnorr1, xnorr2}
+use Rattle.elk.specs.Rules.{Rule, def, same, andl, andr, wr, bot, orr, orl, notl, impr, impl, notr, rcut, unst, xini}
+use Rattle.elk.specs.Rules.{xnnl, xnnr, xandl, xandr1, xandr2, xorr, xorl1, xorl2, ximpl1, ximpl2, ximpl3, ximpr1}
+use Rattle.elk.specs.Rules.{ximpr2, xnimpl, xnimpr1, xnimpr2, xnandl1, xnandl2, xnandr, xnorl, xnorr1, xnorr2}
 
 -- Formulas as 01 writes them, with ∣ for its bar.
 infixr 80 ~_

@@ -5,7 +5,8 @@ use native.Mathlib.Decide.{ℕ-discrete}
 use native.Mathlib.Omega.{arith}
 use mathlib.Core.Path.{_≡_, refl, sym, ap, _∙_}
 use mathlib.Core.Bool.{Bool, true, false}
-use mathlib.Core.List.{List, [], _∷_, _++_, map, List·Memᴰ·head, List·Memᴰ·tail, List·Memᴰ·not-nil, List·Memᴰ·append-cases, List·Memᴰ·eq-of-singleton, Memᴰ·append-left, Memᴰ·append-right, Memᴰ·map, Memᴰ·of-map}
+use mathlib.Core.List.{List, [], _∷_, _++_, map, List·Memᴰ·head, List·Memᴰ·tail, List·Memᴰ·not-nil, List·Memᴰ·append-cases}
+use mathlib.Core.List.{List·Memᴰ·eq-of-singleton, Memᴰ·append-left, Memᴰ·append-right, Memᴰ·map, Memᴰ·of-map}
 use mathlib.Core.Option.{Option, none, some}
 use mathlib.Core.Logic.{inl, ⊎-elim, _↔_, Dec·not-not}
 use Rattle.equilibrium.specs.Formula.{Formula, atom, neg, atomsOf, atomsIn}
@@ -15,7 +16,8 @@ use Rattle.equilibrium.proofs.Satisfaction.{all-agree}
 use Rattle.equilibrium.proofs.Models.{only-occurring}
 use Rattle.elk.specs.Sequent.{Sequent, AllSame}
 use Rattle.elk.specs.Rules.{Rule, Fits, Entry, schema, default, cut, unstable, initial, entry}
-use Rattle.elk.specs.Instance.{Choice, domain, chosen, literal, fixed, excluded-middle, joined, LeftLiteral, left-atom, left-negated, left-verum, RightLiteral, right-atom, right-negated, right-falsum, InstanceOf, Instance}
+use Rattle.elk.specs.Instance.{Choice, domain, chosen, literal, fixed, excluded-middle, joined, LeftLiteral, left-atom, left-negated}
+use Rattle.elk.specs.Instance.{left-verum, RightLiteral, right-atom, right-negated, right-falsum, InstanceOf, Instance}
 use Rattle.elk.specs.Derivation.{Derivation, row, EndsIn}
 use Rattle.elk.proofs.Choices.{in-domain, in-chosen, joined-each}
 use Rattle.elk.proofs.Steps.{same-sym, All, formOf, Keeps}
@@ -34,7 +36,8 @@ def-sound : {p : ℕ} {L R : List Formula} → ((G : Formula) → G ∈ L → (q
 def-sound {p} {L} only out T e = some-head (λ m. out (only-itself L only (only-occurring e p m)))
 
 rcut-sound : {L R Q : List Formula} {A : Formula} → Entails L (A ∷ R) → Entails (A ∷ L) Q → Entails L (R ++ Q)
-rcut-sound {R = R} {Q} v w T e = ⊎-elim (λ a. let s = w T (keep a e) in (s .0, Memᴰ·append-right R (s .1), s .2)) (λ s. (s .0, Memᴰ·append-left Q (s .1), s .2)) (some-cases (v T e))
+rcut-sound {R = R} {Q} v w T e =
+    ⊎-elim (λ a. let s = w T (keep a e) in (s .0, Memᴰ·append-right R (s .1), s .2)) (λ s. (s .0, Memᴰ·append-left Q (s .1), s .2)) (some-cases (v T e))
 
 -- what is joined holds if each part does and there is one
 joined-holds : (H T : List ℕ) (Fs : List Formula) {F : Formula} → F ∈ Fs → AllHold H T Fs → Holds H T (joined Fs)
@@ -47,8 +50,10 @@ fixed-agree G U T (p, true) k f = (λ m. k, λ m. Dec·not-not (dec-in ℕ-discr
 fixed-agree G U T (p, false) k f = (λ m. absurd (f m), λ m. absurd (k m))
 
 -- L has no equilibrium model T: at the atoms of L the refuting pair (G,U) is a pair (H,T) with H properly inside T
-unst-sound : {L : List Formula} {p : ℕ} (c : Choice) → domain c ≈ atomsIn L → p ∈ chosen c → Entails L (joined (map literal c) ∷ []) → Refutable (map fixed c ++ L) (joined (map excluded-middle (chosen c)) ∷ []) → (T : List ℕ) → Equilibrium L T → ⊥
-unst-sound {L} c atoms m v r T e = e .least H (λ q k. in-those _ T q .0 k .0) proper (all-agree {L = L} agree-here agree-there (λ A k. r .left A (Memᴰ·append-right (map fixed c) k)))
+unst-sound : {L : List Formula} {p : ℕ} (c : Choice) → domain c ≈ atomsIn L → p ∈ chosen c → Entails L (joined (map literal c) ∷ [])
+    → Refutable (map fixed c ++ L) (joined (map excluded-middle (chosen c)) ∷ []) → (T : List ℕ) → Equilibrium L T → ⊥
+unst-sound {L} c atoms m v r T e =
+    e .least H (λ q k. in-those _ T q .0 k .0) proper (all-agree {L = L} agree-here agree-there (λ A k. r .left A (Memᴰ·append-right (map fixed c) k)))
   where
     G : List ℕ
     G = r .H
@@ -63,7 +68,8 @@ unst-sound {L} c atoms m v r T e = e .least H (λ q k. in-those _ T q .0 k .0) p
     literals = joined-each T T (map literal c) (⊎-elim (λ k. k) (λ s. absurd (List·Memᴰ·not-nil (s .1))) (some-cases (v T e)))
 
     agree-there : (q : ℕ) → q ∈ atomsIn L → (q ∈ U) ↔ (q ∈ T)
-    agree-there q k = let d = in-domain c q (atoms .1 q k) in fixed-agree G U T (q, d .0) (literals _ (Memᴰ·map literal (d .1))) (r .left _ (Memᴰ·append-left L (Memᴰ·map fixed (d .1))))
+    agree-there q k = let d = in-domain c q (atoms .1 q k) in
+        fixed-agree G U T (q, d .0) (literals _ (Memᴰ·map literal (d .1))) (r .left _ (Memᴰ·append-left L (Memᴰ·map fixed (d .1))))
 
     agree-here : (q : ℕ) → q ∈ atomsIn L → (q ∈ G) ↔ (q ∈ H)
     agree-here q k = (λ g. in-those _ T q .1 (agree-there q k .0 (r .inside q g), g), λ h. in-those _ T q .0 h .1)
@@ -72,7 +78,8 @@ unst-sound {L} c atoms m v r T e = e .least H (λ q k. in-those _ T q .0 k .0) p
     proper s = r .right _ (List·Memᴰ·head refl) (joined-holds G U (map excluded-middle (chosen c)) (Memᴰ·map excluded-middle m) each)
       where
         each : AllHold G U (map excluded-middle (chosen c))
-        each A k = let w = Memᴰ·of-map excluded-middle (chosen c) k in rw (sym (w .2)) (inl (in-those _ T (w .0) .0 (s (w .0) (literals _ (Memᴰ·map literal (in-chosen c (w .0) .0 (w .1))))) .1))
+        each A k = let w = Memᴰ·of-map excluded-middle (chosen c) k in
+            rw (sym (w .2)) (inl (in-those _ T (w .0) .0 (s (w .0) (literals _ (Memᴰ·map literal (in-chosen c (w .0) .0 (w .1))))) .1))
 
 -- the p for which f p is in L
 abbrev Collected : (ℕ → Formula) → List Formula → Type 0
@@ -110,8 +117,10 @@ negated-atom? (right-negated {p}) = yes (p, refl)
 negated-atom? right-falsum = no (λ w. let z : _≡_ {A = ℕ} 0 1 = cc in omega arith)
 
 -- H has the atoms of L, and T those negated in R besides
-xini-sound : {L R : List Formula} → ((F : Formula) → F ∈ L → LeftLiteral F) → ((F : Formula) → F ∈ R → RightLiteral F) → ((F : Formula) → F ∈ L → F ∈ R → ⊥) → ((p : ℕ) → atom p ∈ L → neg (atom p) ∈ L → ⊥) → Refutable L R
-xini-sound {L} {R} lefts rights apart consistent = record { H = H; T = T; inside = λ p m. Memᴰ·append-left (more .0) m; left = λ F m. holds (lefts F m) m; right = λ F m. fails (rights F m) m }
+xini-sound : {L R : List Formula} → ((F : Formula) → F ∈ L → LeftLiteral F)
+    → ((F : Formula) → F ∈ R → RightLiteral F) → ((F : Formula) → F ∈ L → F ∈ R → ⊥) → ((p : ℕ) → atom p ∈ L → neg (atom p) ∈ L → ⊥) → Refutable L R
+xini-sound {L} {R} lefts rights apart consistent =
+    record { H = H; T = T; inside = λ p m. Memᴰ·append-left (more .0) m; left = λ F m. holds (lefts F m) m; right = λ F m. fails (rights F m) m }
   where
     here : Collected atom L
     here = collect atom (λ p q e. cc) L (λ F m. atom? (lefts F m))
@@ -143,25 +152,30 @@ premises-valid (s ∷ ss) [] e v = absurd e
 premises-valid (s ∷ ss) (t ∷ ts) e v = (valid-same (e .0) (v s (List·Memᴰ·head refl)), premises-valid ss ts (e .1) (λ p m. v p (List·Memᴰ·tail m)))
 
 -- a rule's entry, of the table or not
-entry-sound : (e : Entry) → ((F G H : Formula) → Fits (formOf e) F G H → (L R : List Formula) → Keeps Valid e F G H L R) → (F : Option Formula) (premises : List Sequent) (s : Sequent) → InstanceOf e F premises s → ((p : Sequent) → p ∈ premises → Valid p) → Valid s
-entry-sound (schema t) keeps (some F) premises s i v = valid-same (same-sym (i .below)) (keeps F (i .first) (i .second) (i .fits) (i .L) (i .R) (premises-valid premises _ (i .above) v))
+entry-sound : (e : Entry) → ((F G H : Formula) → Fits (formOf e) F G H → (L R : List Formula) → Keeps Valid e F G H L R)
+    → (F : Option Formula) (premises : List Sequent) (s : Sequent) → InstanceOf e F premises s → ((p : Sequent) → p ∈ premises → Valid p) → Valid s
+entry-sound (schema t) keeps (some F) premises s i v =
+    valid-same (same-sym (i .below)) (keeps F (i .first) (i .second) (i .fits) (i .L) (i .R) (premises-valid premises _ (i .above) v))
 entry-sound (schema t) keeps none premises s i v = absurd i
 entry-sound default keeps (some F) premises s i v = valid-same (same-sym (i .below)) (rw (i .principal) (def-sound (i .only-atoms) (i .not-left)))
 entry-sound default keeps none premises s i v = absurd i
 entry-sound cut keeps (some F) premises s i v = let w = premises-valid premises _ (i .above) v in valid-same (same-sym (i .below)) (rcut-sound (w .0) (w .1 .0))
 entry-sound cut keeps none premises s i v = absurd i
 entry-sound unstable keeps (some F) premises s i v = absurd i
-entry-sound unstable keeps none premises s i v = let w = premises-valid premises _ (i .above) v in valid-same (same-sym (i .below)) (λ T e. absurd (unst-sound (i .choice) (i .atoms) (i .not-empty) (w .0) (w .1 .0) T e))
+entry-sound unstable keeps none premises s i v = let w = premises-valid premises _ (i .above) v in
+    valid-same (same-sym (i .below)) (λ T e. absurd (unst-sound (i .choice) (i .atoms) (i .not-empty) (w .0) (w .1 .0) T e))
 entry-sound initial keeps (some F) premises s i v = absurd i
 entry-sound initial keeps none premises s i v = valid-same (same-sym (i .below)) (xini-sound (i .lefts) (i .rights) (i .apart) (i .consistent))
 
 -- every rule: where the premises are valid, so is the conclusion
-pub rule-sound : (r : Rule) (F : Option Formula) (premises : List Sequent) (s : Sequent) → Instance r F premises s → ((p : Sequent) → p ∈ premises → Valid p) → Valid s
+pub rule-sound : (r : Rule) (F : Option Formula) (premises : List Sequent) (s : Sequent)
+    → Instance r F premises s → ((p : Sequent) → p ∈ premises → Valid p) → Valid s
 rule-sound r = entry-sound (entry r) (λ F G H. table-sound r)
 
 -- every row of a derivation is valid
 pub derivation-sound : {rows : List Sequent} → Derivation rows → (s : Sequent) → s ∈ rows → Valid s
-derivation-sound (row d r F premises {s = last} inside i) s (List·Memᴰ·head e) = rw e (rule-sound r F premises last i (λ p m. derivation-sound d p (inside p m)))
+derivation-sound (row d r F premises {s = last} inside i) s (List·Memᴰ·head e) =
+    rw e (rule-sound r F premises last i (λ p m. derivation-sound d p (inside p m)))
 derivation-sound (row d r F premises inside i) s (List·Memᴰ·tail m) = derivation-sound d s m
 
 pub derivable-sound : {s : Sequent} → Derivable s → Valid s

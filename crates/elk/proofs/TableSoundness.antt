@@ -6,9 +6,13 @@ use mathlib.Core.Logic.{inl, inr, ⊎-elim, dite, Dec·not-not}
 use Rattle.equilibrium.specs.Formula.{Formula, neg, conj, disj, imp}
 use Rattle.equilibrium.specs.Meaning.{Holds, AllHold, NoneHolds, SomeHolds, Entails}
 use Rattle.equilibrium.proofs.Satisfaction.{persists, holds?}
-use Rattle.elk.specs.Rules.{Rule, def, same, andl, andr, wr, bot, orr, orl, notl, impr, impl, notr, rcut, unst, xini, xnnl, xnnr, xandl, xandr1, xandr2, xorr, xorl1, xorl2, ximpl1, ximpl2, ximpl3, ximpr1, ximpr2, xnimpl, xnimpr1, xnimpr2, xnandl1, xnandl2, xnandr, xnorl, xnorr1, xnorr2, Fits, is-any, is-falsity, is-negation, is-conjunction, is-disjunction, is-implication, is-double-negation, is-negated-conjunction, is-negated-disjunction, is-negated-implication, entry}
+use Rattle.elk.specs.Rules.{Rule, def, same, andl, andr, wr, bot, orr, orl, notl, impr, impl, notr, rcut, unst, xini, xnnl, xnnr, xandl}
+use Rattle.elk.specs.Rules.{xandr1, xandr2, xorr, xorl1, xorl2, ximpl1, ximpl2, ximpl3, ximpr1, ximpr2, xnimpl, xnimpr1, xnimpr2, xnandl1}
+use Rattle.elk.specs.Rules.{xnandl2, xnandr, xnorl, xnorr1, xnorr2, Fits, is-any, is-falsity, is-negation, is-conjunction, is-disjunction}
+use Rattle.elk.specs.Rules.{is-implication, is-double-negation, is-negated-conjunction, is-negated-disjunction, is-negated-implication, entry}
 use Rattle.elk.proofs.Steps.{formOf, Keeps}
-use Rattle.elk.proofs.Validity.{Refutable, Valid, carry, all-cons, all-head, all-tail, none-cons, none-head, none-tail, some-head, some-tail, some-cases, keep}
+use Rattle.elk.proofs.Validity.{Refutable, Valid, carry, all-cons, all-head, all-tail, none-cons}
+use Rattle.elk.proofs.Validity.{none-head, none-tail, some-head, some-tail, some-cases, keep}
 
 -- one of R, since it is not A
 others : {T : List ℕ} {A : Formula} {R : List Formula} → (Holds T T A → ⊥) → SomeHolds T (A ∷ R) → SomeHolds T R
@@ -20,7 +24,8 @@ replace f s = ⊎-elim (λ a. some-head (f a)) some-tail (some-cases s)
 
 module _ {L R : List Formula} {A B : Formula} where
   andl-sound : Entails (A ∷ B ∷ L) R → Entails (conj A B ∷ L) R
-  andl-sound p T e = let a = all-head (e .model) in p T (carry (all-cons (a .0) (all-cons (a .1) (all-tail (e .model)))) (λ H s h. all-cons (all-head h, all-head (all-tail h)) (all-tail (all-tail h))) e)
+  andl-sound p T e = let a = all-head (e .model) in
+      p T (carry (all-cons (a .0) (all-cons (a .1) (all-tail (e .model)))) (λ H s h. all-cons (all-head h, all-head (all-tail h)) (all-tail (all-tail h))) e)
 
   andr-sound : Entails L (A ∷ R) → Entails L (B ∷ R) → Entails L (conj A B ∷ R)
   andr-sound p q T e = ⊎-elim (λ a. replace (λ b. (a, b)) (q T e)) some-tail (some-cases (p T e))
@@ -29,7 +34,10 @@ module _ {L R : List Formula} {A B : Formula} where
   orr-sound p T e = ⊎-elim (λ a. some-head (inl a)) (replace inr) (some-cases (p T e))
 
   orl-sound : Entails (A ∷ L) R → Entails (B ∷ L) (A ∷ R) → Entails (disj A B ∷ L) R
-  orl-sound p q T e = dite (holds? T T A) with-A (λ n. ⊎-elim with-A (λ b. others n (q T (carry (all-cons b (all-tail (e .model))) (λ H s h. all-cons (inr (all-head h)) (all-tail h)) e))) (all-head (e .model)))
+  orl-sound p q T e =
+      dite (holds? T T A) with-A
+      (λ n. ⊎-elim with-A (λ b. others n (q T (carry (all-cons b (all-tail (e .model))) (λ H s h. all-cons (inr (all-head h)) (all-tail h)) e)))
+      (all-head (e .model)))
     where
       with-A : Holds T T A → SomeHolds T R
       with-A a = p T (carry (all-cons a (all-tail (e .model))) (λ H s h. all-cons (inl (all-head h)) (all-tail h)) e)
@@ -41,7 +49,8 @@ module _ {L R : List Formula} {A B : Formula} where
   impl-sound p q T e = dite (holds? T T A) with-A without-A
     where
       with-A : Holds T T A → SomeHolds T R
-      with-A a = let b = all-head (e .model) .0 a in others (λ n. n a) (p T (carry (all-cons b (all-tail (e .model))) (λ H s h. all-cons ((λ x. b), λ x. all-head h) (all-tail h)) e))
+      with-A a = let b = all-head (e .model) .0 a in
+          others (λ n. n a) (p T (carry (all-cons b (all-tail (e .model))) (λ H s h. all-cons ((λ x. b), λ x. all-head h) (all-tail h)) e))
 
       without-A : (Holds T T A → ⊥) → SomeHolds T R
       without-A n = others n (q T (carry (all-tail (e .model)) (λ H s h. all-cons ((λ x. absurd (n x)), λ x. absurd (n (persists s A x))) h) e))
@@ -75,23 +84,38 @@ table-sound unst f L R = tt
 table-sound xini f L R = tt
 table-sound xnnl is-double-negation L R = λ v. let r = v .0 in by-pair r (all-cons (none-head (r .right)) (r .left)) (none-tail (r .right))
 table-sound xnnr is-double-negation L R = λ v. let r = v .0 in by-pair r (all-tail (r .left)) (none-cons (λ n. n (all-head (r .left))) (r .right))
-table-sound xandl is-conjunction L R = λ v. let r = v .0 in by-pair r (all-cons (all-head (r .left), all-head (all-tail (r .left))) (all-tail (all-tail (r .left)))) (r .right)
+table-sound xandl is-conjunction L R = λ v. let r = v .0 in
+    by-pair r (all-cons (all-head (r .left), all-head (all-tail (r .left))) (all-tail (all-tail (r .left)))) (r .right)
 table-sound xandr1 is-conjunction L R = λ v. let r = v .0 in by-pair r (r .left) (none-cons (λ h. none-head (r .right) (h .0)) (none-tail (r .right)))
 table-sound xandr2 is-conjunction L R = λ v. let r = v .0 in by-pair r (r .left) (none-cons (λ h. none-head (r .right) (h .1)) (none-tail (r .right)))
-table-sound xorr is-disjunction L R = λ v. let r = v .0 in by-pair r (r .left) (none-cons (⊎-elim (none-head (r .right)) (none-head (none-tail (r .right)))) (none-tail (none-tail (r .right))))
+table-sound xorr is-disjunction L R = λ v. let r = v .0 in
+    by-pair r (r .left) (none-cons (⊎-elim (none-head (r .right)) (none-head (none-tail (r .right)))) (none-tail (none-tail (r .right))))
 table-sound xorl1 is-disjunction L R = λ v. let r = v .0 in by-pair r (all-cons (inl (all-head (r .left))) (all-tail (r .left))) (r .right)
 table-sound xorl2 is-disjunction L R = λ v. let r = v .0 in by-pair r (all-cons (inr (all-head (r .left))) (all-tail (r .left))) (r .right)
-table-sound ximpl1 (is-implication {G = B}) L R = λ v. let r = v .0 in by-pair r (all-cons ((λ x. Dec·not-not (holds? (r .T) (r .T) B) .0 (none-head (none-tail (r .right)))), λ x. absurd (none-head (r .right) x)) (r .left)) (none-tail (none-tail (r .right)))
-table-sound ximpl2 (is-implication {G = B}) L R = λ v. let r = v .0 in by-pair r (all-cons ((λ x. persists (r .inside) B (all-head (r .left))), λ x. all-head (r .left)) (all-tail (r .left))) (r .right)
-table-sound ximpl3 (is-implication {F = A}) L R = λ v. let r = v .0 in by-pair r (all-cons ((λ x. absurd (all-head (r .left) x)), λ x. absurd (all-head (r .left) (persists (r .inside) A x))) (all-tail (r .left))) (r .right)
-table-sound ximpr1 is-implication L R = λ v. let r = v .0 in by-pair r (all-tail (r .left)) (none-cons (λ h. none-head (r .right) (h .1 (all-head (r .left)))) (none-tail (r .right)))
-table-sound ximpr2 is-implication L R = λ v. let r = v .0 in by-pair r (all-tail (r .left)) (none-cons (λ h. none-head (r .right) (λ x. all-head (r .left) (h .0 x))) (none-tail (r .right)))
-table-sound xnimpl is-negated-implication L R = λ v. let r = v .0 in by-pair r (all-cons (λ h. none-head (r .right) (λ x. all-head (r .left) (h .0 x))) (all-tail (r .left))) (none-tail (r .right))
-table-sound xnimpr1 is-negated-implication L R = λ v. let r = v .0 in by-pair r (all-tail (r .left)) (none-cons (λ n. n ((λ x. absurd (all-head (r .left) x)), λ x. absurd (all-head (r .left) x))) (r .right))
-table-sound xnimpr2 is-negated-implication L R = λ v. let r = v .0 in by-pair r (r .left) (none-cons (λ n. none-head (r .right) (λ b. n ((λ x. b), λ x. b))) (none-tail (r .right)))
+table-sound ximpl1 (is-implication {G = B}) L R = λ v. let r = v .0 in
+    by-pair r (all-cons ((λ x. Dec·not-not (holds? (r .T) (r .T) B) .0 (none-head (none-tail (r .right)))), λ x. absurd (none-head (r .right) x))
+    (r .left)) (none-tail (none-tail (r .right)))
+table-sound ximpl2 (is-implication {G = B}) L R = λ v. let r = v .0 in
+    by-pair r (all-cons ((λ x. persists (r .inside) B (all-head (r .left))), λ x. all-head (r .left)) (all-tail (r .left))) (r .right)
+table-sound ximpl3 (is-implication {F = A}) L R = λ v. let r = v .0 in
+    by-pair r (all-cons ((λ x. absurd (all-head (r .left) x)), λ x. absurd (all-head (r .left) (persists (r .inside) A x))) (all-tail (r .left))) (r .right)
+table-sound ximpr1 is-implication L R = λ v. let r = v .0 in
+    by-pair r (all-tail (r .left)) (none-cons (λ h. none-head (r .right) (h .1 (all-head (r .left)))) (none-tail (r .right)))
+table-sound ximpr2 is-implication L R = λ v. let r = v .0 in
+    by-pair r (all-tail (r .left)) (none-cons (λ h. none-head (r .right) (λ x. all-head (r .left) (h .0 x))) (none-tail (r .right)))
+table-sound xnimpl is-negated-implication L R = λ v. let r = v .0 in
+    by-pair r (all-cons (λ h. none-head (r .right) (λ x. all-head (r .left) (h .0 x))) (all-tail (r .left))) (none-tail (r .right))
+table-sound xnimpr1 is-negated-implication L R = λ v. let r = v .0 in
+    by-pair r (all-tail (r .left)) (none-cons (λ n. n ((λ x. absurd (all-head (r .left) x)), λ x. absurd (all-head (r .left) x))) (r .right))
+table-sound xnimpr2 is-negated-implication L R = λ v. let r = v .0 in
+    by-pair r (r .left) (none-cons (λ n. none-head (r .right) (λ b. n ((λ x. b), λ x. b))) (none-tail (r .right)))
 table-sound xnandl1 is-negated-conjunction L R = λ v. let r = v .0 in by-pair r (all-cons (λ h. all-head (r .left) (h .0)) (all-tail (r .left))) (r .right)
 table-sound xnandl2 is-negated-conjunction L R = λ v. let r = v .0 in by-pair r (all-cons (λ h. all-head (r .left) (h .1)) (all-tail (r .left))) (r .right)
-table-sound xnandr is-negated-conjunction L R = λ v. let r = v .0 in by-pair r (r .left) (none-cons (λ n. none-head (r .right) (λ a. none-head (none-tail (r .right)) (λ b. n (a, b)))) (none-tail (none-tail (r .right))))
-table-sound xnorl is-negated-disjunction L R = λ v. let r = v .0 in by-pair r (all-cons (⊎-elim (all-head (r .left)) (all-head (all-tail (r .left)))) (all-tail (all-tail (r .left)))) (r .right)
-table-sound xnorr1 is-negated-disjunction L R = λ v. let r = v .0 in by-pair r (r .left) (none-cons (λ n. none-head (r .right) (λ a. n (inl a))) (none-tail (r .right)))
-table-sound xnorr2 is-negated-disjunction L R = λ v. let r = v .0 in by-pair r (r .left) (none-cons (λ n. none-head (r .right) (λ b. n (inr b))) (none-tail (r .right)))
+table-sound xnandr is-negated-conjunction L R = λ v. let r = v .0 in
+    by-pair r (r .left) (none-cons (λ n. none-head (r .right) (λ a. none-head (none-tail (r .right)) (λ b. n (a, b)))) (none-tail (none-tail (r .right))))
+table-sound xnorl is-negated-disjunction L R = λ v. let r = v .0 in
+    by-pair r (all-cons (⊎-elim (all-head (r .left)) (all-head (all-tail (r .left)))) (all-tail (all-tail (r .left)))) (r .right)
+table-sound xnorr1 is-negated-disjunction L R = λ v. let r = v .0 in
+    by-pair r (r .left) (none-cons (λ n. none-head (r .right) (λ a. n (inl a))) (none-tail (r .right)))
+table-sound xnorr2 is-negated-disjunction L R = λ v. let r = v .0 in
+    by-pair r (r .left) (none-cons (λ n. none-head (r .right) (λ b. n (inr b))) (none-tail (r .right)))

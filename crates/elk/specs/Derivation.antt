@@ -10,7 +10,8 @@ use Rattle.elk.specs.Instance.{Instance}
 -- a finite list of rows, the last one first: each an instance of a rule with premises earlier in the list
 pub data Derivation : List Sequent → Type 0 where
   start : Derivation []
-  row : {rows : List Sequent} → Derivation rows → (r : Rule) (F : Option Formula) (premises : List Sequent) {s : Sequent} → premises ⊆ rows → Instance r F premises s → Derivation (s ∷ rows)
+  row : {rows : List Sequent} → Derivation rows → (r : Rule) (F : Option Formula) (premises : List Sequent) {s : Sequent}
+      → premises ⊆ rows → Instance r F premises s → Derivation (s ∷ rows)
 
 -- some derivation's last row is an ELK row with exactly these sides
 pub record EndsIn (L R : List Formula) : Type 0 where

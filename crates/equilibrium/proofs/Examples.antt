@@ -21,7 +21,9 @@ agrees? s T = dec-iff (equilibrium? (s .formulas) T) (dec-some (λ M. dec-same �
 -- every part of the atoms that occur is tried; beyond them no model is listed and none exists
 unfoldable as-listed? : (s : Sheet) → Dec (AsListed s)
 unfolding agrees? dec-all dec-part search-parts dec-not
-as-listed? s = step (dec-all (λ M. dec-part ℕ-discrete M atoms) (s .models)) (search-parts ℕ-discrete atoms (λ T. Agrees T → ⊥) (λ T. dec-not (agrees? s T)) (λ T U e n k. n (same U T (≈-sym e) k)))
+as-listed? s =
+    step (dec-all (λ M. dec-part ℕ-discrete M atoms) (s .models))
+    (search-parts ℕ-discrete atoms (λ T. Agrees T → ⊥) (λ T. dec-not (agrees? s T)) (λ T U e n k. n (same U T (≈-sym e) k)))
   where
     atoms : List ℕ
     atoms = atomsIn (s .formulas)
@@ -30,7 +32,10 @@ as-listed? s = step (dec-all (λ M. dec-part ℕ-discrete M atoms) (s .models)) 
     Agrees T = Equilibrium (s .formulas) T ↔ Listed (s .models) T
 
     same : (T U : List ℕ) → T ≈ U → Agrees T → Agrees U
-    same T U e k = (λ q. let l = k .0 (equilibrium-same (≈-sym e) q) in (l .0, l .1, ≈-trans (≈-sym e) (l .2)), λ l. equilibrium-same e (k .1 (l .0, l .1, ≈-trans e (l .2))))
+    same T U e k = (
+      λ q. let l = k .0 (equilibrium-same (≈-sym e) q) in (l .0, l .1, ≈-trans (≈-sym e) (l .2)),
+      λ l. equilibrium-same e (k .1 (l .0, l .1, ≈-trans e (l .2))),
+    )
 
     step : Dec ((M : List ℕ) → M ∈ s .models → M ⊆ atoms) → Dec ((T : List ℕ) × (T ⊆ atoms) × (Agrees T → ⊥)) → Dec (AsListed s)
     step (no n) d = no (λ f. n (λ M m. only-occurring (f M .1 (M, m, (λ x k. k, λ x k. k)))))

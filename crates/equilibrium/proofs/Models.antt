@@ -29,7 +29,12 @@ equilibrium? L T = dec-map (equilibrium-iff .1) (equilibrium-iff .0) (dec-and (a
 
 -- being in equilibrium is a matter of T as a set
 pub equilibrium-same : {L : List Formula} {T U : List ℕ} → T ≈ U → Equilibrium L T → Equilibrium L U
-equilibrium-same {L} {T} {U} e q = record { model = all-agree {L = L} (same-agree e _) (same-agree e _) (q .model); least = λ H s p h. q .least H (λ x m. e .1 x (s x m)) (λ t. p (λ x m. t x (e .1 x m))) (all-agree {L = L} (λ x m. (λ k. k, λ k. k)) (same-agree (e .1, e .0) _) h) }
+equilibrium-same {L} {T} {U} e q =
+    record {
+      model = all-agree {L = L} (same-agree e _) (same-agree e _) (q .model);
+      least = λ H s p h. q .least H (λ x m. e .1 x (s x m)) (λ t. p (λ x m. t x (e .1 x m)))
+          (all-agree {L = L} (λ x m. (λ k. k, λ k. k)) (same-agree (e .1, e .0) _) h);
+    }
 
 -- an equilibrium model holds only atoms that occur
 pub only-occurring : {L : List Formula} {T : List ℕ} → Equilibrium L T → T ⊆ atomsIn L
@@ -43,7 +48,9 @@ only-occurring {L} {T} e p m = cases (dec-part ℕ-discrete T H)
 
     cases : Dec (T ⊆ H) → p ∈ atomsIn L
     cases (yes s) = inside p (s p m) .1
-    cases (no n) = absurd (e .least H (λ q k. inside q k .0) n (all-agree {L = L} (λ q k. (λ t. in-those _ T q .1 (t, k), λ h. inside q h .0)) (λ q k. (λ t. t, λ t. t)) (e .model)))
+    cases (no n) =
+        absurd (e .least H (λ q k. inside q k .0) n
+        (all-agree {L = L} (λ q k. (λ t. in-those _ T q .1 (t, k), λ h. inside q h .0)) (λ q k. (λ t. t, λ t. t)) (e .model)))
 
 -- entailment over any finite set of atoms that holds those that occur is entailment
 pub entails-over : {U : List ℕ} {L R : List Formula} → atomsIn L ⊆ U → Entails L R ↔ EntailsOver U L R
@@ -52,7 +59,8 @@ entails-over s = (λ f T t e. f T e, λ f T e. f T (λ p m. s p (only-occurring 
 -- a claim holds or fails, and never both
 unfoldable pub fails? : (L R : List Formula) → Fails L R ⊎ Entails L R
 unfolding search-parts dec-and dec-not equilibrium? some-holds?
-fails? L R = cases (search-parts ℕ-discrete (atomsIn L) (λ T. Equilibrium L T × (SomeHolds T R → ⊥)) (λ T. dec-and (equilibrium? L T) (dec-not (some-holds? T R))) same)
+fails? L R =
+    cases (search-parts ℕ-discrete (atomsIn L) (λ T. Equilibrium L T × (SomeHolds T R → ⊥)) (λ T. dec-and (equilibrium? L T) (dec-not (some-holds? T R))) same)
   where
     same : (T U : List ℕ) → T ≈ U → Equilibrium L T × (SomeHolds T R → ⊥) → Equilibrium L U × (SomeHolds U R → ⊥)
     same T U e h = (equilibrium-same e (h .0), λ s. h .1 (some-agree {R = R} (same-agree (e .1, e .0) _) s))

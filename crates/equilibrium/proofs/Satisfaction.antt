@@ -67,7 +67,8 @@ holds-agree (imp A B) {H} {I} {T} {U} h t =
 -- an atom of a formula of L is one of L's atoms
 pub occurs : {A : Formula} {L : List Formula} → A ∈ L → atomsOf A ⊆ atomsIn L
 occurs {L = []} m p k = absurd (List·Memᴰ·not-nil m)
-occurs {A} {L = B ∷ L} m p k = ⊎-elim (λ (e : A ≡ B). Memᴰ·append-left (atomsIn L) (rw e at k)) (λ j. Memᴰ·append-right (atomsOf B) (occurs j p k)) (List·Memᴰ·cases-cons m)
+occurs {A} {L = B ∷ L} m p k =
+    ⊎-elim (λ (e : A ≡ B). Memᴰ·append-left (atomsIn L) (rw e at k)) (λ j. Memᴰ·append-right (atomsOf B) (occurs j p k)) (List·Memᴰ·cases-cons m)
 
 pub all-agree : {L : List Formula} {H I T U : List ℕ} → Agree (atomsIn L) H I → Agree (atomsIn L) T U → AllHold H T L → AllHold I U L
 all-agree h t f A m = holds-agree A (λ p k. h p (occurs m p k)) (λ p k. t p (occurs m p k)) .0 (f A m)

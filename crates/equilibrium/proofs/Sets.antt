@@ -97,8 +97,15 @@ module _ {X : Type 0} where
   in-those {P} d (x ∷ xs) y = step (d x) (in-those d xs y)
     where
       step : (e : Dec (P x)) → (y ∈ those d xs) ↔ ((y ∈ xs) × P y) → (y ∈ put-if e x (those d xs)) ↔ ((y ∈ x ∷ xs) × P y)
-      step (yes h) ih = (λ m. ⊎-elim (λ (e : y ≡ x). (List·Memᴰ·head e, subst P (sym e) h)) (λ k. (List·Memᴰ·tail (ih .0 k .0), ih .0 k .1)) (List·Memᴰ·cases-cons m), λ g. ⊎-elim (λ e. List·Memᴰ·head e) (λ k. List·Memᴰ·tail (ih .1 (k, g .1))) (List·Memᴰ·cases-cons (g .0)))
-      step (no n) ih = (λ m. (List·Memᴰ·tail (ih .0 m .0), ih .0 m .1), λ g. ⊎-elim (λ (e : y ≡ x). absurd (n (subst P e (g .1)))) (λ k. ih .1 (k, g .1)) (List·Memᴰ·cases-cons (g .0)))
+      step (yes h) ih = (
+        λ m. ⊎-elim (λ (e : y ≡ x). (List·Memᴰ·head e, subst P (sym e) h)) (λ k. (List·Memᴰ·tail (ih .0 k .0), ih .0 k .1))
+            (List·Memᴰ·cases-cons m),
+        λ g. ⊎-elim (λ e. List·Memᴰ·head e) (λ k. List·Memᴰ·tail (ih .1 (k, g .1))) (List·Memᴰ·cases-cons (g .0)),
+      )
+      step (no n) ih = (
+        λ m. (List·Memᴰ·tail (ih .0 m .0), ih .0 m .1),
+        λ g. ⊎-elim (λ (e : y ≡ x). absurd (n (subst P e (g .1)))) (λ k. ih .1 (k, g .1)) (List·Memᴰ·cases-cons (g .0)),
+      )
 
 -- sets of things that can be told apart
 module _ {X : Type 0} (_≟_ : Discrete X) where
@@ -121,23 +128,29 @@ module _ {X : Type 0} (_≟_ : Discrete X) where
 
   -- a set with one of its members taken out and put in front
   pub split-off : (x : X) (xs : List X) → x ∈ xs → xs ≈ (x ∷ those (λ y. dec-not (_≟_ y x)) xs)
-  split-off x xs m = (λ y k. there y k (_≟_ y x), λ y k. ⊎-elim (λ (e : y ≡ x). subst (λ (z : X). z ∈ xs) (sym e) m) (λ j. in-those _ xs y .0 j .0) (List·Memᴰ·cases-cons k))
+  split-off x xs m =
+      (λ y k. there y k (_≟_ y x), λ y k. ⊎-elim (λ (e : y ≡ x). subst (λ (z : X). z ∈ xs) (sym e) m) (λ j. in-those _ xs y .0 j .0) (List·Memᴰ·cases-cons k))
     where
       there : (y : X) → y ∈ xs → Dec (y ≡ x) → y ∈ x ∷ those (λ z. dec-not (_≟_ z x)) xs
       there y k (yes e) = List·Memᴰ·head e
       there y k (no n) = List·Memᴰ·tail (in-those _ xs y .1 (k, n))
 
   -- Is there a part of U with a property of sets? With each member in turn left out and put in, every part is tried.
-  unfoldable pub search-parts : (U : List X) (P : List X → Type 0) → ((xs : List X) → Dec (P xs)) → ((xs ys : List X) → xs ≈ ys → P xs → P ys) → Dec ((xs : List X) × (xs ⊆ U) × P xs)
+  unfoldable pub search-parts : (U : List X) (P : List X → Type 0)
+      → ((xs : List X) → Dec (P xs)) → ((xs ys : List X) → xs ≈ ys → P xs → P ys) → Dec ((xs : List X) × (xs ⊆ U) × P xs)
   search-parts [] P d same = step (d [])
     where
       step : Dec (P []) → Dec ((xs : List X) × (xs ⊆ []) × P xs)
       step (yes h) = yes ([], (λ x m. m), h)
       step (no n) = no (λ s. n (same (s .0) [] (s .1, λ x m. absurd (List·Memᴰ·not-nil m)) (s .2)))
-  search-parts (u ∷ U) P d same = step (search-parts U P d same) (search-parts U (λ xs. P (u ∷ xs)) (λ xs. d (u ∷ xs)) (λ xs ys e. same (u ∷ xs) (u ∷ ys) (put e)))
+  search-parts (u ∷ U) P d same =
+      step (search-parts U P d same) (search-parts U (λ xs. P (u ∷ xs)) (λ xs. d (u ∷ xs)) (λ xs ys e. same (u ∷ xs) (u ∷ ys) (put e)))
     where
       put : {xs ys : List X} → xs ≈ ys → (u ∷ xs) ≈ (u ∷ ys)
-      put e = (λ y m. ⊎-elim (λ k. List·Memᴰ·head k) (λ k. List·Memᴰ·tail (e .0 y k)) (List·Memᴰ·cases-cons m), λ y m. ⊎-elim (λ k. List·Memᴰ·head k) (λ k. List·Memᴰ·tail (e .1 y k)) (List·Memᴰ·cases-cons m))
+      put e = (
+        λ y m. ⊎-elim (λ k. List·Memᴰ·head k) (λ k. List·Memᴰ·tail (e .0 y k)) (List·Memᴰ·cases-cons m),
+        λ y m. ⊎-elim (λ k. List·Memᴰ·head k) (λ k. List·Memᴰ·tail (e .1 y k)) (List·Memᴰ·cases-cons m),
+      )
 
       narrow : (xs : List X) → xs ⊆ u ∷ U → (u ∈ xs → ⊥) → xs ⊆ U
       narrow xs s n y m = ⊎-elim (λ (e : y ≡ u). absurd (n (subst (λ (z : X). z ∈ xs) e m))) (λ k. k) (List·Memᴰ·cases-cons (s y m))

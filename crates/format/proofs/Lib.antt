@@ -1,5 +1,6 @@
 -- Laws of the file's definitions.
 pub mod Booleans
+pub mod Equal
 pub mod Fold
 pub mod Stepping
 pub mod Tested

@@ -226,11 +226,13 @@ module _ (text line : Bytes) (start number : ℕ) (s : State) {n : ℕ} {q : Row
       ap (λ (z : RowRead). otherIn (z .number) s) (h .read)
       ∙ order-same (f .stage) in-rows (length (f .body .rows)) n (stored .stage) (ap (λ (c : Counts). c .rows) (stored .counts))
 
-  pub row-misplaced : {stepped : Stepped} (t : Contents) → otherIn (row .number) s ≡ true → stepped ≡ refusedBy s 4 number → Lined text start line number s stepped t t
+  pub row-misplaced : {stepped : Stepped} (t : Contents) → otherIn (row .number) s ≡ true
+      → stepped ≡ refusedBy s 4 number → Lined text start line number s stepped t t
   row-misplaced t other given =
       line-refused 4 t given (λ f p done good stored.
       step-row f p line n q well
-      ∙ ap (λ (o : Option ℕ). settled o p (withRow f q)) (first-applies (4 when outOfOrder (f .stage) in-rows (length (f .body .rows)) n) (bodyTests (f .body) q) (sym (order-asked stored) ∙ other)))
+      ∙ ap (λ (o : Option ℕ). settled o p (withRow f q))
+      (first-applies (4 when outOfOrder (f .stage) in-rows (length (f .body .rows)) n) (bodyTests (f .body) q) (sym (order-asked stored) ∙ other)))
 
   module _ (next-one : otherIn (row .number) s ≡ false) {d : Draft} (drafted : Drafted q d l r) {formulas words rows left right : List ℕ} {k : ℕ}
       (numbers : RowNumbered d (s .counts) l r formulas words rows left right k) where
@@ -250,7 +252,8 @@ module _ (text line : Bytes) (start number : ℕ) (s : State) {n : ℕ} {q : Row
 
     -- a row that passes
     module _ (passed : k ≡ 0) {rows′ left′ right′ : List ℕ} (w : RowStored d (s .counts) l r rows left right rows′ left′ right′)
-        {f : File} (p : Place) (t : Contents) {done : List Bytes} (good : Good done f) (stored : Stored text f s (withRows t formulas words rows left right)) where
+        {f : File} (p : Place) (t : Contents) {done : List Bytes} (good : Good done f)
+        (stored : Stored text f s (withRows t formulas words rows left right)) where
       steps : step f p line ≡ next (withRow f q)
       steps =
           step-row f p line n q well
@@ -266,7 +269,8 @@ module _ (text line : Bytes) (start number : ℕ) (s : State) {n : ℕ} {q : Row
           → take (listed .count) table ≡ side
       short side {listed} {table} laid good-side known =
           ap (λ (z : Listed). take (z .count) table) (laid .answer)
-          ∙ laid .front (ltb-false mostOnSide (length side) (or-false (not (strictlyRising side)) (ltb mostOnSide (length side)) good-side .1)) (λ x m. omega (arith, known-earlier (f .body) side known x m, good-held (good .body) .few-nodes))
+          ∙ laid .front (ltb-false mostOnSide (length side) (or-false (not (strictlyRising side)) (ltb mostOnSide (length side)) good-side .1))
+          (λ x m. omega (arith, known-earlier (f .body) side known x m, good-held (good .body) .few-nodes))
 
       left-is : take (d .left .count) l ≡ q .left
       left-is = short (q .left) (drafted .left-laid) (fits .left-good) (fits .left-known)
@@ -300,12 +304,15 @@ module _ (text line : Bytes) (start number : ℕ) (s : State) {n : ℕ} {q : Row
       numbers-same =
           let held = good-held (good .body) in
           let a1 : d .rule ≡ codeOf (q .rule) = drafted .rule in
-          let a2 : principalNumber (d .principal) ≡ orAbsent (q .principal) = ap principalNumber (drafted .principal) ∙ principal-same (q .principal) (fits .principal-known) in
+          let a2 : principalNumber (d .principal) ≡ orAbsent (q .principal) =
+          ap principalNumber (drafted .principal) ∙ principal-same (q .principal) (fits .principal-known) in
           let a3 : d .first ≡ getD (q .premises) 0 absent = drafted .first-premise narrow in
           let a4 : d .second ≡ getD (q .premises) 1 absent = drafted .second-premise narrow in
-          let a5 : s .counts .left % 65536 ≡ length (leftPool (f .body .rows)) = small-mod (s .counts .left) (omega (arith, left-held, held .few-left)) ∙ left-held in
+          let a5 : s .counts .left % 65536 ≡ length (leftPool (f .body .rows)) =
+          small-mod (s .counts .left) (omega (arith, left-held, held .few-left)) ∙ left-held in
           let a6 : d .left .count % 65536 ≡ length (q .left) = small-mod (d .left .count) (omega (arith, left-count, fits .left-room)) ∙ left-count in
-          let a7 : s .counts .right % 65536 ≡ length (rightPool (f .body .rows)) = small-mod (s .counts .right) (omega (arith, right-held, held .few-right)) ∙ right-held in
+          let a7 : s .counts .right % 65536 ≡ length (rightPool (f .body .rows)) =
+          small-mod (s .counts .right) (omega (arith, right-held, held .few-right)) ∙ right-held in
           let a8 : d .right .count % 65536 ≡ length (q .right) = small-mod (d .right .count) (omega (arith, right-count, fits .right-room)) ∙ right-count in
           cc (a1, a2, a3, a4, a5, a6, a7, a8)
 
@@ -321,12 +328,14 @@ module _ (text line : Bytes) (start number : ℕ) (s : State) {n : ℕ} {q : Row
       left-put : Exactly (leftPool (f .body .rows ++ q ∷ [])) left′
       left-put =
           subst (Exactly (leftPool (f .body .rows ++ q ∷ []))) (sym (w .left-written ∙ ap₂ (written left) left-held left-is)) (
-          put-exactly (λ (z : Row). z .left) left (f .body .rows) q (length (leftPool (f .body .rows))) (stored .left) refl (omega (arith, fits .left-room, stored .full .left)))
+          put-exactly (λ (z : Row). z .left) left (f .body .rows) q (length (leftPool (f .body .rows)))
+          (stored .left) refl (omega (arith, fits .left-room, stored .full .left)))
 
       right-put : Exactly (rightPool (f .body .rows ++ q ∷ [])) right′
       right-put =
           subst (Exactly (rightPool (f .body .rows ++ q ∷ []))) (sym (w .right-written ∙ ap₂ (written right) right-held right-is)) (
-          put-exactly (λ (z : Row). z .right) right (f .body .rows) q (length (rightPool (f .body .rows))) (stored .right) refl (omega (arith, fits .right-room, stored .full .right)))
+          put-exactly (λ (z : Row). z .right) right (f .body .rows) q (length (rightPool (f .body .rows)))
+          (stored .right) refl (omega (arith, fits .right-room, stored .full .right)))
 
       room : fullFor (countsOf (f .body)) (length (q .left)) (length (q .right)) ≡ false
       unfolding fullFor
@@ -347,7 +356,12 @@ module _ (text line : Bytes) (start number : ℕ) (s : State) {n : ℕ} {q : Row
                   names = stored .full .names;
                   formulas = stored .full .formulas;
                   words = stored .full .words;
-                  rows = omega (arith, stored .full .rows, ap length (w .row-written), written-length rows (rowWidth * s .counts .rows) (rowNumbers (recordOf d (s .counts))));
+                  rows = omega (
+                    arith,
+                    stored .full .rows,
+                    ap length (w .row-written),
+                    written-length rows (rowWidth * s .counts .rows) (rowNumbers (recordOf d (s .counts))),
+                  );
                   left = omega (arith, stored .full .left, ap length (w .left-written), written-length left (s .counts .left) (take (d .left .count) l));
                   right = omega (arith, stored .full .right, ap length (w .right-written), written-length right (s .counts .right) (take (d .right .count) r));
                 };
@@ -365,7 +379,8 @@ module _ (text line : Bytes) (start number : ℕ) (s : State) {n : ℕ} {q : Row
 
 -- what is written of a row changes no length
 pub row-lengths : {d : Draft} {c : Counts} {l r rows left right rows′ left′ right′ : List ℕ} (t : Contents) (formulas words : List ℕ)
-    → RowStored d c l r rows left right rows′ left′ right′ → SameLengths (withRows t formulas words rows left right) (withRows t formulas words rows′ left′ right′)
+    → RowStored d c l r rows left right rows′ left′ right′
+    → SameLengths (withRows t formulas words rows left right) (withRows t formulas words rows′ left′ right′)
 row-lengths {d} {c} {l} {r} {rows} {left} {right} t formulas words w =
     record {
       names = refl;
@@ -379,7 +394,8 @@ row-lengths {d} {c} {l} {r} {rows} {left} {right} t formulas words w =
 -- ---- what settling a row comes to
 
 module _ (row : RowRead) (number : ℕ) (above l r formulas words : List ℕ) (s : State) (stepped : Stepped) (rows left right : List ℕ) where
-  pub settled-misplaced : otherIn (row .number) s ≡ true → stepped ≡ refusedBy s 4 number → RowSettled row number above l r formulas words s stepped rows left right rows left right
+  pub settled-misplaced : otherIn (row .number) s ≡ true → stepped ≡ refusedBy s 4 number
+      → RowSettled row number above l r formulas words s stepped rows left right rows left right
   settled-misplaced other given =
       record {
         lined = λ text line start n q t well h. row-misplaced text line start number s well h (withRows t formulas words rows left right) other given;
@@ -388,10 +404,12 @@ module _ (row : RowRead) (number : ℕ) (above l r formulas words : List ℕ) (s
 
   module _ (next-one : otherIn (row .number) s ≡ false) (one two : ℕ) (is-one : one ≡ getD above 0 0) (is-two : two ≡ getD above 1 0)
       (d : Draft) (is-draft : d ≡ draftOf row one two) (k : ℕ) (numbers : RowNumbered d (s .counts) l r formulas words rows left right k) where
-    pub settled-refused : (k ≡ 0 → ⊥) → stepped ≡ refusedBy s k number → RowSettled row number above l r formulas words s stepped rows left right rows left right
+    pub settled-refused : (k ≡ 0 → ⊥) → stepped ≡ refusedBy s k number
+        → RowSettled row number above l r formulas words s stepped rows left right rows left right
     settled-refused some-number given =
         record {
-          lined = λ text line start n q t well h. row-refused text line start number s well h next-one (row-drafted h is-one is-two is-draft) numbers t some-number given;
+          lined = λ text line start n q t well h. row-refused text line start number s well h next-one
+              (row-drafted h is-one is-two is-draft) numbers t some-number given;
           keeps = λ t. keeps-refused (withRows t formulas words rows left right) given;
         }
 
@@ -412,6 +430,7 @@ module _ (row : RowRead) (number : ℕ) (above l r formulas words : List ℕ) (s
             → p .start ≡ start → p .line ≡ number → Steps text (step f p line) stepped (withRows t formulas words rows′ left′ right′)
         steps-stored text line start n q t well h f p done good stored size placed at =
             let drafted = row-drafted h is-one is-two is-draft in
-            steps-next stepped (withRow f q) (steps text line start number s well h next-one drafted numbers passed w p t good stored) (ap (λ (z : Stepped). z .number) given) (
+            steps-next stepped (withRow f q) (steps text line start number s well h next-one drafted numbers passed w p t good stored)
+            (ap (λ (z : Stepped). z .number) given) (
             subst (λ (z : Stepped). Stored text (withRow f q) (z .state) (withRows t formulas words rows′ left′ right′)) (sym given) (
             row-stored text line start number s well h next-one drafted numbers passed w p t good stored is-counts))

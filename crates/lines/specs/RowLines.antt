@@ -116,7 +116,8 @@ pub record RowLaid (n : ℕ) (q : Row) (row : RowRead) (above l r : List ℕ) : 
   pub left-laid : Laid (q .left) (row .left) l
   pub right-laid : Laid (q .right) (row .right) r
 
-pub record RowSettled (row : RowRead) (number : ℕ) (above l r formulas words : List ℕ) (s : State) (stepped : Stepped) (rows left right rows′ left′ right′ : List ℕ) : Type 0 where
+pub record RowSettled (row : RowRead) (number : ℕ) (above l r formulas words : List ℕ) (s : State) (stepped : Stepped)
+    (rows left right rows′ left′ right′ : List ℕ) : Type 0 where
   pub lined :
       (text line : Bytes) (start n : ℕ) (q : Row) (t : Contents) → lineOf line ≡ some (rowLine n q) → RowLaid n q row above l r
       → Lined text start line number s stepped (withRows t formulas words rows left right) (withRows t formulas words rows′ left′ right′)

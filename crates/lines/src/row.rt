@@ -52,7 +52,8 @@ fn read_row(
     right: &mut [u16],
 ) -> RowRead
     requires { ⌜ Fielded (now line) fields ⌝ }
-    ensures { λ r. ⌜ RowInto (fieldsOf (now (line .entry))) (now (premises .entry)) (now (left .entry)) (now (right .entry)) (now (premises .exit)) (now (left .exit)) (now (right .exit)) r ⌝ }
+    ensures { λ r. ⌜ RowInto (fieldsOf (now (line .entry))) (now (premises .entry)) (now (left .entry)) (now (right .entry))
+        (now (premises .exit)) (now (left .exit)) (now (right .exit)) r ⌝ }
 {
     let number = read_number(field(line, fields, 1));
     let rule = rule_word(field(line, fields, 2));

@@ -68,7 +68,8 @@ draftOf r rule one two =
 own-tests : (b : Body) (r : Row) (rule one two : ℕ) → earlyOf (draftOf r rule one two) (countsOf b) ≡ earlyTests b r
 unfolding fullFor
 own-tests b r rule one two =
-    ap (λ (t : Bool). (5 when fullFor (countsOf b) (length (r .left)) (length (r .right))) ∷ (7 when t) ∷ (9 when badSide (r .left) || badSide (r .right)) ∷ []) (
+    ap (λ (t : Bool). (5 when fullFor (countsOf b) (length (r .left)) (length (r .right)))
+    ∷ (7 when t) ∷ (9 when badSide (r .left) || badSide (r .right)) ∷ []) (
     ap₂ (λ (s t : Bool). s || t || pastOf (listedAs (some (r .left))) (length (b .nodes)) || pastOf (listedAs (some (r .right))) (length (b .nodes)))
     (ahead-listed (r .principal) (length (b .nodes))) (past-listed (r .premises) (length (b .rows)))
     ∙ ap₂ (λ (s t : Bool). unknownFormula b (listed (r .principal)) || any (notEarlier (length (b .rows))) (r .premises) || s || t)
@@ -78,8 +79,18 @@ own-tests b r rule one two =
 pub early-same : (b : Body) {r : Row} {d : Draft} {c : Counts} {left right : List ℕ} → c ≡ countsOf b → Drafted r d left right → earlyOf d c ≡ earlyTests b r
 early-same b {r} {d} {c} counts drafted =
     ap (earlyOf d) counts
-    ∙ ap₂ (λ (o : Optional) (l : Listed). earlyOf (record { rule = d .rule; principal = o; premises = l; first = d .first; second = d .second; left = d .left; right = d .right }) (countsOf b)) (drafted .principal) (drafted .premises)
-    ∙ ap₂ (λ (l m : Listed). earlyOf (record { rule = d .rule; principal = principalAs (some (r .principal)); premises = listedAs (some (r .premises)); first = d .first; second = d .second; left = l; right = m }) (countsOf b)) (drafted .left-laid .answer) (drafted .right-laid .answer)
+    ∙ ap₂ (λ (o : Optional) (l : Listed). earlyOf
+    (record { rule = d .rule; principal = o; premises = l; first = d .first; second = d .second; left = d .left; right = d .right }) (countsOf b))
+    (drafted .principal) (drafted .premises)
+    ∙ ap₂ (λ (l m : Listed). earlyOf (record {
+      rule = d .rule;
+      principal = principalAs (some (r .principal));
+      premises = listedAs (some (r .premises));
+      first = d .first;
+      second = d .second;
+      left = l;
+      right = m;
+    }) (countsOf b)) (drafted .left-laid .answer) (drafted .right-laid .answer)
     ∙ own-tests b r (d .rule) (d .first) (d .second)
 
 -- numbers below a limit that 16 bits hold

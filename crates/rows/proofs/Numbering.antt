@@ -97,7 +97,8 @@ passes-iff b r n e = (to, from)
         numbered-none n .0 (
         e ∙ joined ∙ ap (λ (o : Option ℕ). orElse o (first (ruleTests b r))) (p .0) ∙ row-passes-exactly b r .1 (p .1))
 
-module _ (d : Draft) (c : Counts) (left right formulas words rows leftPool rightPool : List ℕ) (early : ℕ) (is-early : numbered early ≡ first (earlyOf d c)) where
+module _ (d : Draft) (c : Counts) (left right formulas words rows leftPool rightPool : List ℕ)
+    (early : ℕ) (is-early : numbered early ≡ first (earlyOf d c)) where
   -- one of the tests before the rule applies
   pub early-numbered : (early ≡ 0 → ⊥) → RowNumbered d c left right formulas words rows leftPool rightPool early
   early-numbered h =
@@ -117,7 +118,9 @@ module _ (d : Draft) (c : Counts) (left right formulas words rows leftPool right
           (sym (ap first (early-same b (g .counts) drafted)) ∙ sym is-early ∙ numbered-some early h))
 
   -- none does, and the rule decides
-  pub late-numbered : early ≡ 0 → (v : Verdict) → ((b : Body) (r : Row) → Judging b r formulas words rows leftPool rightPool d (take (d .left .count) left) (take (d .right .count) right) → numberOf v ≡ first (ruleTests b r))
+  pub late-numbered : early ≡ 0 → (v : Verdict)
+      → ((b : Body) (r : Row) → Judging b r formulas words rows leftPool rightPool d (take (d .left .count) left) (take (d .right .count) right)
+      → numberOf v ≡ first (ruleTests b r))
       → RowNumbered d c left right formulas words rows leftPool rightPool (verdictNumber v)
   late-numbered h v judged =
       record {
@@ -130,7 +133,8 @@ module _ (d : Draft) (c : Counts) (left right formulas words rows leftPool right
       none-early : first (earlyOf d c) ≡ none
       none-early = sym is-early ∙ numbered-none early .1 h
 
-      given : (b : Body) (r : Row) → Ground b c formulas words rows leftPool rightPool → Drafted r d left right → numbered (verdictNumber v) ≡ first (bodyTests b r)
+      given : (b : Body) (r : Row) → Ground b c formulas words rows leftPool rightPool
+          → Drafted r d left right → numbered (verdictNumber v) ≡ first (bodyTests b r)
       given b r g drafted =
           let none-here = sym (ap first (early-same b (g .counts) drafted)) ∙ none-early in
           verdict-numbered v ∙ judged b r (ready g drafted none-here)

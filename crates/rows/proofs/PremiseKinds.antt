@@ -1,17 +1,14 @@
 -- The number and the kinds of a row's premises, and its principal formula, compared as numbers: what each test says of
 -- `wrongPremises`.
 use Prim.Native.Nat.{ℕ, suc, _<_}
-use native.Mathlib.Decide.{decLt}
 use native.Mathlib.Omega.{arith}
 use mathlib.Core.Bool.{Bool, true, false, not, _&&_, _||_, or-true, and-false}
 use mathlib.Core.List.{List, [], _∷_, _++_, map}
 use mathlib.Core.Option.{Option, none, some}
 use mathlib.Core.Path.{_≡_, refl, sym, ap, ap₂, _∙_}
 use lib.ListN.{length, getD, length-map, List·getD-map}
-use Rattle.equilibrium.proofs.Sets.{dec-all, from-yes}
 use Rattle.elk.specs.Sequent.{Kind, elk, refutation}
-use Rattle.elk.specs.Rules.{Rule, entry, rules, kindOf, hasPrincipal, premiseKinds}
-use Rattle.elk.proofs.Faithful.{every-rule}
+use Rattle.elk.specs.Rules.{Rule, entry, kindOf, hasPrincipal, premiseKinds}
 use Rattle.format.specs.File.{Row, Body, sequentOf}
 use Rattle.format.specs.Tables.{absent, rowAt}
 use Rattle.format.specs.Tests.{sameKind, sameKinds, present, sameTruth, premisesOf, wrongPremises}
@@ -21,6 +18,7 @@ use Rattle.tables.specs.Records.{rowOf}
 use Rattle.tables.proofs.Encoded.{rule-held}
 use Rattle.rules.specs.RuleTable.{kindNumber, kindNumbers, truthNumber, ruleNumbers, ruleNumber}
 use Rattle.rules.proofs.RuleNumbers.{rule-number}
+use Rattle.schema.proofs.SchemaRule.{two-at-most}
 use Rattle.rows.specs.Judging.{namedOf, Judging}
 use Rattle.rows.specs.declared.draft.Draft.{Draft}
 
@@ -73,7 +71,8 @@ module _ (d : Kind) where
   one-same (j ∷ i ∷ is) (k ∷ []) e f s = absurd (omega arith)
   one-same (j ∷ []) (k ∷ []) e f s = ap (λ (t : Bool). t && true) (kind-same j k s)
 
-  two-same : (js ks : List Kind) → length js ≡ length ks → length ks ≡ 2 → kindHad js 0 ≡ kindAsked ks 0 → kindHad js 1 ≡ kindAsked ks 1 → sameKinds js ks ≡ true
+  two-same : (js ks : List Kind) → length js ≡ length ks → length ks ≡ 2
+      → kindHad js 0 ≡ kindAsked ks 0 → kindHad js 1 ≡ kindAsked ks 1 → sameKinds js ks ≡ true
   two-same js [] e f s t = absurd (omega arith)
   two-same [] (k ∷ ks) e f s t = absurd (omega arith)
   two-same (j ∷ js) (k ∷ []) e f s t = absurd (omega arith)
@@ -103,11 +102,6 @@ asked-first s = kind-numbers (premiseKinds (entry s)) _ .0
 
 pub asked-second : (s : Rule) → getD (ruleNumbers s) 5 0 ≡ kindAsked (premiseKinds (entry s)) 1
 asked-second s = kind-numbers (premiseKinds (entry s)) _ .1
-
--- no rule has more than two premises, by one computed test
-pub two-at-most : (s : Rule) → length (premiseKinds (entry s)) < 3
-unfolding dec-all decLt
-two-at-most s = from-yes (dec-all (λ r. decLt (length (premiseKinds (entry r))) 3) rules) tt s (every-rule s)
 
 truth-same : (t u : Bool) → truthNumber t ≡ truthNumber u → sameTruth t u ≡ true
 truth-same true true e = refl
@@ -158,13 +152,18 @@ module _ (b : Body) (q : Row) where
 
   pub principal-differs : (truthNumber (present (q .principal)) ≡ truthNumber (hasPrincipal (entry (q .rule))) → ⊥) → wrongPremises b q ≡ true
   unfolding wrongPremises
-  principal-differs n = ap (λ (t : Bool). not t || not (sameKinds (kindsOf b q) (premiseKinds (entry (q .rule))))) (truth-differs (present (q .principal)) (hasPrincipal (entry (q .rule))) n)
+  principal-differs n =
+      ap (λ (t : Bool). not t || not (sameKinds (kindsOf b q) (premiseKinds (entry (q .rule)))))
+      (truth-differs (present (q .principal)) (hasPrincipal (entry (q .rule))) n)
 
   kinds-differ : sameKinds (kindsOf b q) asked ≡ false → wrongPremises b q ≡ true
   unfolding wrongPremises asked
-  kinds-differ e = ap (λ (t : Bool). not (sameTruth (present (q .principal)) (hasPrincipal (entry (q .rule)))) || not t) e ∙ or-true (not (sameTruth (present (q .principal)) (hasPrincipal (entry (q .rule)))))
+  kinds-differ e =
+      ap (λ (t : Bool). not (sameTruth (present (q .principal)) (hasPrincipal (entry (q .rule)))) || not t) e
+      ∙ or-true (not (sameTruth (present (q .principal)) (hasPrincipal (entry (q .rule)))))
 
-  kinds-same : truthNumber (present (q .principal)) ≡ truthNumber (hasPrincipal (entry (q .rule))) → sameKinds (kindsOf b q) asked ≡ true → wrongPremises b q ≡ false
+  kinds-same : truthNumber (present (q .principal)) ≡ truthNumber (hasPrincipal (entry (q .rule)))
+      → sameKinds (kindsOf b q) asked ≡ true → wrongPremises b q ≡ false
   unfolding wrongPremises asked
   kinds-same t e = ap₂ (λ (t u : Bool). not t || not u) (truth-same (present (q .principal)) (hasPrincipal (entry (q .rule))) t) e
 
@@ -174,17 +173,20 @@ module _ (b : Body) (q : Row) where
 
   had : (k : ℕ) → premiseKind b q k ≡ kindHad past (kindsOf b q) k
   unfolding past
-  had k = ap kindNumber (sym (List·getD-map (λ s. s .kind) (premisesOf b q) k (sequentOf (b .nodes) (getD (b .rows) absent q)) ∙ ap (λ s. s .kind) (List·getD-map (λ i. sequentOf (b .nodes) (getD (b .rows) i q)) (q .premises) k absent)))
+  had k = ap kindNumber (sym (List·getD-map (λ s. s .kind) (premisesOf b q) k (sequentOf (b .nodes) (getD (b .rows) absent q))
+      ∙ ap (λ s. s .kind) (List·getD-map (λ i. sequentOf (b .nodes) (getD (b .rows) i q)) (q .premises) k absent)))
 
   pub counted : length (kindsOf b q) ≡ length (q .premises)
   counted = length-map (premisesOf b q) (λ s. s .kind) ∙ length-map (q .premises) (λ i. sequentOf (b .nodes) (getD (b .rows) i q))
 
   module _ (count : length (q .premises) ≡ length (premiseKinds (entry (q .rule)))) where
-    pub wrong-first : (length (premiseKinds (entry (q .rule))) ≡ 0 → ⊥) → (premiseKind b q 0 ≡ kindAsked (premiseKinds (entry (q .rule))) 0 → ⊥) → wrongPremises b q ≡ true
+    pub wrong-first : (length (premiseKinds (entry (q .rule))) ≡ 0 → ⊥)
+        → (premiseKind b q 0 ≡ kindAsked (premiseKinds (entry (q .rule))) 0 → ⊥) → wrongPremises b q ≡ true
     unfolding asked
     wrong-first m n = kinds-differ (first-differs past (kindsOf b q) asked (counted ∙ count) m (λ e. n (had 0 ∙ e)))
 
-    pub wrong-second : length (premiseKinds (entry (q .rule))) ≡ 2 → (premiseKind b q 1 ≡ kindAsked (premiseKinds (entry (q .rule))) 1 → ⊥) → wrongPremises b q ≡ true
+    pub wrong-second : length (premiseKinds (entry (q .rule))) ≡ 2
+        → (premiseKind b q 1 ≡ kindAsked (premiseKinds (entry (q .rule))) 1 → ⊥) → wrongPremises b q ≡ true
     unfolding asked
     wrong-second m n = kinds-differ (second-differs past (kindsOf b q) asked (counted ∙ count) m (λ e. n (had 1 ∙ e)))
 
@@ -198,7 +200,8 @@ module _ (b : Body) (q : Row) where
         unfolding asked
         right-one m = kinds-same named (one-same past (kindsOf b q) asked (counted ∙ count) m (sym (had 0) ∙ first))
 
-        pub right-two : length (premiseKinds (entry (q .rule))) ≡ 2 → premiseKind b q 1 ≡ kindAsked (premiseKinds (entry (q .rule))) 1 → wrongPremises b q ≡ false
+        pub right-two : length (premiseKinds (entry (q .rule))) ≡ 2 → premiseKind b q 1 ≡ kindAsked (premiseKinds (entry (q .rule))) 1
+            → wrongPremises b q ≡ false
         unfolding asked
         right-two m second = kinds-same named (two-same past (kindsOf b q) asked (counted ∙ count) m (sym (had 0) ∙ first) (sym (had 1) ∙ second))
 

@@ -20,7 +20,8 @@ use Rattle.rows.proofs.Steps.{cut-decided, unstable-decided, schema-dec
 -- what holds of four lists holds of four that are equal to them
 of-equal : (P : List ℕ → List ℕ → List ℕ → List ℕ → Type 0) {w x y z w′ x′ y′ z′ : List ℕ} → w ≡ w′ → x ≡ x′ → y ≡ y′ → z ≡ z′ → P w x y z → P w′ x′ y′ z′
 of-equal P {w} {x} {y} {z} {w′} {x′} {y′} {z′} e f g h p =
-    subst (λ (v : List ℕ). P w′ x′ y′ v) h (subst (λ (v : List ℕ). P w′ x′ v z) g (subst (λ (v : List ℕ). P w′ v y z) f (subst (λ (v : List ℕ). P v x y z) e p)))
+    subst (λ (v : List ℕ). P w′ x′ y′ v) h
+    (subst (λ (v : List ℕ). P w′ x′ v z) g (subst (λ (v : List ℕ). P w′ v y z) f (subst (λ (v : List ℕ). P v x y z) e p)))
 
 module _ {b : Body} {q : Row} {formulas words rows leftPool rightPool left right : List ℕ} {d : Draft}
     (j : Judging b q formulas words rows leftPool rightPool d left right) (right-premises : wrongPremises b q ≡ false)
@@ -31,7 +32,8 @@ module _ {b : Body} {q : Row} {formulas words rows leftPool rightPool left right
       → DecidesIf (AllRise (left ∷ right ∷ l₁ ∷ r₁ ∷ l₂ ∷ r₂ ∷ [])) (CutSides p left right l₁ r₁ l₂ r₂) r → Decides (RowInstance b q) r
   cut-refetched he p hp r answer =
       cut-decided j right-premises i k is-first is-second he p hp r (
-      of-equal (λ w x y z. DecidesIf (AllRise (left ∷ right ∷ w ∷ x ∷ y ∷ z ∷ [])) (CutSides p left right w x y z) r) first-left first-right second-left second-right answer)
+      of-equal (λ w x y z. DecidesIf (AllRise (left ∷ right ∷ w ∷ x ∷ y ∷ z ∷ []))
+      (CutSides p left right w x y z) r) first-left first-right second-left second-right answer)
 
   pub unstable-refetched : entry (q .rule) ≡ unstable → (r : Bool) → UnstableStep formulas words left l₁ r₁ l₂ r₂ r → Decides (RowInstance b q) r
   unstable-refetched he r answer =
@@ -43,5 +45,6 @@ module _ {b : Body} {q : Row} {formulas words rows leftPool rightPool left right
       → Decides (RowInstance b q) r
   schema-refetched t he p hp r answer =
       schema-decided j right-premises i k is-first is-second t he p (d .premises .count) hp refl r (
-      of-equal (λ w x y z. SchemaAnswer formulas (record { rule = d .rule; principal = p; count = d .premises .count; row = left ⊣ right; one = w ⊣ x; two = y ⊣ z }) r)
+      of-equal (λ w x y z. SchemaAnswer formulas
+      (record { rule = d .rule; principal = p; count = d .premises .count; row = left ⊣ right; one = w ⊣ x; two = y ⊣ z }) r)
       first-left first-right second-left second-right answer)

@@ -44,7 +44,8 @@ seen-alike nodes k (a ∷ b ∷ []) one two h = refl
 seen-alike nodes k (a ∷ b ∷ c ∷ cs) one two h = absurd (omega arith)
 
 -- the sequent of a row, by its kind and its sides
-by-sides : (nodes : List Node) (r : Row) (k : Kind) (s : Sides) → kindOf (entry (r .rule)) ≡ k → s ≡ (r .left ⊣ r .right) → sequentOf nodes r ≡ sequentWith nodes k s
+by-sides : (nodes : List Node) (r : Row) (k : Kind) (s : Sides)
+    → kindOf (entry (r .rule)) ≡ k → s ≡ (r .left ⊣ r .right) → sequentOf nodes r ≡ sequentWith nodes k s
 by-sides nodes r k s e f =
     ap (λ (j : Kind). sequentWith nodes j (r .left ⊣ r .right)) e ∙ ap (sequentWith nodes k) (sym f)
 
@@ -90,14 +91,16 @@ module _ {b : Body} {q : Row} {formulas words rows leftPool rightPool left right
     premise-held : HeldRow b (premiseRow b q k)
     premise-held = good-held (j .formulas-held .good) .rows _ (in-getD (b .rows) (getD (q .premises) k absent) q (premise-earlier j k h))
 
-    pub premise-sides : (fetched rows leftPool rightPool Side.left i ⊣ fetched rows leftPool rightPool Side.right i) ≡ (premiseRow b q k .left ⊣ premiseRow b q k .right)
+    pub premise-sides : (fetched rows leftPool rightPool Side.left i ⊣ fetched rows leftPool rightPool Side.right i)
+        ≡ (premiseRow b q k .left ⊣ premiseRow b q k .right)
     premise-sides = ap₂ _⊣_ (premise-side Side.left) (premise-side Side.right)
 
     pub left-fetched : Sided b (fetched rows leftPool rightPool Side.left i)
     left-fetched = subst (Sided b) (sym (premise-side Side.left)) (record { known = premise-held .left-known; rising = good-rises _ (premise-held .left-good) })
 
     pub right-fetched : Sided b (fetched rows leftPool rightPool Side.right i)
-    right-fetched = subst (Sided b) (sym (premise-side Side.right)) (record { known = premise-held .right-known; rising = good-rises _ (premise-held .right-good) })
+    right-fetched =
+        subst (Sided b) (sym (premise-side Side.right)) (record { known = premise-held .right-known; rising = good-rises _ (premise-held .right-good) })
 
   module _ {e : Entry} (he : entry (q .rule) ≡ e) where
     pub premise-count : length (q .premises) ≡ length (premiseKinds e)
@@ -116,8 +119,12 @@ module _ {b : Body} {q : Row} {formulas words rows leftPool rightPool left right
         → (1 < length (q .premises) → two ≡ (premiseRow b q 1 .left ⊣ premiseRow b q 1 .right))
         → RowInstance b q ↔ InstanceOf e o (seen (b .nodes) (premiseKinds e) one two) (sequentWith (b .nodes) (kindOf e) (left ⊣ right))
     instance-seen o one two few ho f g = (
-      λ i. subst (λ (s : Sequent). InstanceOf e o ps s) conclusion (subst (λ (l : List Sequent). InstanceOf e o l s₀) premises (subst (λ p. InstanceOf e p (premisesOf b q) s₀) ho (subst (λ x. InstanceOf x (decodedAt (b .nodes) <$> q .principal) (premisesOf b q) s₀) he i))),
-      λ i. subst (λ x. InstanceOf x (decodedAt (b .nodes) <$> q .principal) (premisesOf b q) s₀) (sym he) (subst (λ p. InstanceOf e p (premisesOf b q) s₀) (sym ho) (subst (λ (l : List Sequent). InstanceOf e o l s₀) (sym premises) (subst (λ (s : Sequent). InstanceOf e o ps s) (sym conclusion) i))),
+      λ i. subst (λ (s : Sequent). InstanceOf e o ps s) conclusion
+          (subst (λ (l : List Sequent). InstanceOf e o l s₀) premises
+          (subst (λ p. InstanceOf e p (premisesOf b q) s₀) ho (subst (λ x. InstanceOf x (decodedAt (b .nodes) <$> q .principal) (premisesOf b q) s₀) he i))),
+      λ i. subst (λ x. InstanceOf x (decodedAt (b .nodes) <$> q .principal) (premisesOf b q) s₀) (sym he)
+          (subst (λ p. InstanceOf e p (premisesOf b q) s₀) (sym ho)
+          (subst (λ (l : List Sequent). InstanceOf e o l s₀) (sym premises) (subst (λ (s : Sequent). InstanceOf e o ps s) (sym conclusion) i))),
     )
       where
         s₀ : Sequent
@@ -135,6 +142,7 @@ module _ {b : Body} {q : Row} {formulas words rows leftPool rightPool left right
   -- a principal formula that is there: its number is known, and as the table holds it
   pub principal-number : (i : ℕ) → q .principal ≡ some i → (principalOf (d .principal) ≡ i) × (i < length (b .nodes))
   principal-number i e =
-      let known : i < length (b .nodes) = known-earlier b (i ∷ []) (ap (λ (p : Option ℕ). unknownFormula b (listed p)) (sym e) ∙ j .principal-known) i (List·Memᴰ·head refl) in
+      let known : i < length (b .nodes) =
+      known-earlier b (i ∷ []) (ap (λ (p : Option ℕ). unknownFormula b (listed p)) (sym e) ∙ j .principal-known) i (List·Memᴰ·head refl) in
       let small : i % 65536 ≡ i = omega (arith, good-held (j .formulas-held .good) .few-nodes) in
       (ap principalOf (j .principal ∙ ap (λ (p : Option ℕ). principalAs (some p)) e) ∙ small, known)

@@ -47,9 +47,10 @@ use Rattle.cut.proofs.CutRule.{cut-rule}
 use Rattle.literals.specs.Literals.{DefaultStep, InitialStep}
 use Rattle.schema.specs.SchemaRows.{Sides, _⊣_, Handed, SidesRise, sequentWith, OfBody, SchemaAnswer}
 use Rattle.unstable.specs.Unstable.{UnstableStep}
+use Rattle.schema.proofs.SchemaRule.{two-at-most}
 use Rattle.rows.specs.Judging.{principalOf, Judging, Premised}
 use Rattle.rows.specs.declared.draft.Draft.{Draft}
-use Rattle.rows.proofs.PremiseKinds.{premiseRow, two-at-most}
+use Rattle.rows.proofs.PremiseKinds.{premiseRow}
 use Rattle.rows.proofs.Seen.{
   seen,
   seen-alike,
@@ -140,17 +141,20 @@ module _ {b : Body} {q : Row} {formulas words rows leftPool rightPool left right
   principal-decoded : (i p : ℕ) → q .principal ≡ some i → p ≡ i → (decodedAt (b .nodes) <$> q .principal) ≡ some (decodedAt (b .nodes) p)
   principal-decoded i p e h = ap (λ (o : Option ℕ). decodedAt (b .nodes) <$> o) e ∙ ap (λ (n : ℕ). some (decodedAt (b .nodes) n)) (sym h)
 
-  pub default-decided : entry (q .rule) ≡ default → (p : ℕ) → p ≡ principalOf (d .principal) → (r : Bool) → DefaultStep formulas p left right r → Decides (RowInstance b q) r
+  pub default-decided : entry (q .rule) ≡ default → (p : ℕ) → p ≡ principalOf (d .principal)
+      → (r : Bool) → DefaultStep formulas p left right r → Decides (RowInstance b q) r
   default-decided he p hp r answer =
       let named = principal-there j right-premises he refl in
       let is = principal-is (named .0) (named .1) p hp in
-      let iff = instance-seen j right-premises he _ no-sides no-sides (omega arith) (principal-decoded (named .0) p (named .1) (is .0)) (λ l. absurd (none-at he refl 0 l)) (λ l. absurd (none-at he refl 1 l)) in
+      let iff = instance-seen j right-premises he _ no-sides no-sides (omega arith)
+      (principal-decoded (named .0) p (named .1) (is .0)) (λ l. absurd (none-at he refl 0 l)) (λ l. absurd (none-at he refl 1 l)) in
       decides-iff (iff .1, iff .0) (answer .decides b (j .formulas-held) (is .1) (j .left-sided) (j .right-sided))
 
   pub initial-decided : entry (q .rule) ≡ initial → (r : Bool) → InitialStep formulas left right r → Decides (RowInstance b q) r
   initial-decided he r answer =
       let absent-here = ap (λ (o : Option ℕ). decodedAt (b .nodes) <$> o) (principal-absent j right-premises he refl) in
-      let iff = instance-seen j right-premises he none no-sides no-sides (omega arith) absent-here (λ l. absurd (none-at he refl 0 l)) (λ l. absurd (none-at he refl 1 l)) in
+      let iff = instance-seen j right-premises he none no-sides no-sides (omega arith) absent-here
+      (λ l. absurd (none-at he refl 0 l)) (λ l. absurd (none-at he refl 1 l)) in
       decides-iff (iff .1, iff .0) (answer .decides b (j .formulas-held) (j .left-sided) (j .right-sided))
 
   -- the sides of the premises, as they were fetched
@@ -203,9 +207,12 @@ module _ {b : Body} {q : Row} {formulas words rows leftPool rightPool left right
         let one-right = r₁-sided (omega arith) in
         let two-left = l₂-sided (omega arith) in
         let two-right = r₂-sided (omega arith) in
-        let rise : AllRise (left ∷ right ∷ l₁ ∷ r₁ ∷ l₂ ∷ r₂ ∷ []) = (j .left-sided .rising, (j .right-sided .rising, (one-left .rising, (one-right .rising, (two-left .rising, (two-right .rising, tt)))))) in
-        let iff = instance-seen j right-premises he _ (l₁ ⊣ r₁) (l₂ ⊣ r₂) (omega arith) (principal-decoded (named .0) p (named .1) (is .0)) first-sides second-sides in
-        let rule = cut-rule (j .formulas-held .good) p left right l₁ r₁ l₂ r₂ (known-one p (is .1)) (j .left-sided .known) (j .right-sided .known) (one-left .known) (one-right .known) (two-left .known) (two-right .known) in
+        let rise : AllRise (left ∷ right ∷ l₁ ∷ r₁ ∷ l₂ ∷ r₂ ∷ []) =
+        (j .left-sided .rising, (j .right-sided .rising, (one-left .rising, (one-right .rising, (two-left .rising, (two-right .rising, tt)))))) in
+        let iff = instance-seen j right-premises he _ (l₁ ⊣ r₁) (l₂ ⊣ r₂) (omega arith)
+        (principal-decoded (named .0) p (named .1) (is .0)) first-sides second-sides in
+        let rule = cut-rule (j .formulas-held .good) p left right l₁ r₁ l₂ r₂ (known-one p (is .1))
+        (j .left-sided .known) (j .right-sided .known) (one-left .known) (one-right .known) (two-left .known) (two-right .known) in
         decides-iff (λ x. iff .1 (rule .0 x), λ x. rule .1 (iff .0 x)) (decided answer rise)
       where
         known-one : (n : ℕ) → n < length (b .nodes) → unknownFormula b (n ∷ []) ≡ false
@@ -221,17 +228,22 @@ module _ {b : Body} {q : Row} {formulas words rows leftPool rightPool left right
         (l₂-sided (omega arith)) (r₂-sided (omega arith)))
 
     pub schema-decided : (t : Schema) → entry (q .rule) ≡ schema t → (p count : ℕ) → p ≡ principalOf (d .principal) → count ≡ d .premises .count → (r : Bool)
-        → SchemaAnswer formulas (record { rule = d .rule; principal = p; count = count; row = left ⊣ right; one = l₁ ⊣ r₁; two = l₂ ⊣ r₂ }) r → Decides (RowInstance b q) r
+        → SchemaAnswer formulas (record { rule = d .rule; principal = p; count = count; row = left ⊣ right; one = l₁ ⊣ r₁; two = l₂ ⊣ r₂ }) r
+        → Decides (RowInstance b q) r
     schema-decided t he p count hp hc r answer =
         let named = principal-there j right-premises he refl in
         let is = principal-is (named .0) (named .1) p hp in
         let many : length (q .premises) ≡ length (t .premises) = premise-count j right-premises he ∙ length-map (t .premises) (λ (a : Added). t .kind) in
-        let few : length (t .premises) < 3 = omega (arith, two-at-most (q .rule), ap (λ (e : Entry). length (premiseKinds e)) he, length-map (t .premises) (λ (a : Added). t .kind)) in
+        let few : length (t .premises) < 3 =
+        omega (arith, two-at-most (q .rule), ap (λ (e : Entry). length (premiseKinds e)) he, length-map (t .premises) (λ (a : Added). t .kind)) in
         let counted : count ≡ length (q .premises) = hc ∙ sym (j .count) in
         let handed : Handed = record { rule = d .rule; principal = p; count = count; row = left ⊣ right; one = l₁ ⊣ r₁; two = l₂ ⊣ r₂ } in
-        let iff = instance-seen j right-premises he _ (l₁ ⊣ r₁) (l₂ ⊣ r₂) (omega (arith, length-map (t .premises) (λ (a : Added). t .kind))) (principal-decoded (named .0) p (named .1) (is .0)) first-sides second-sides in
-        let same : seen (b .nodes) (map (λ (a : Added). t .kind) (t .premises)) (l₁ ⊣ r₁) (l₂ ⊣ r₂) ≡ map (sequentWith (b .nodes) (t .kind)) (take count ((l₁ ⊣ r₁) ∷ (l₂ ⊣ r₂) ∷ [])) =
-        seen-alike (b .nodes) (t .kind) (t .premises) (l₁ ⊣ r₁) (l₂ ⊣ r₂) few ∙ ap (λ (n : ℕ). map (sequentWith (b .nodes) (t .kind)) (take n ((l₁ ⊣ r₁) ∷ (l₂ ⊣ r₂) ∷ []))) (sym (counted ∙ many)) in
+        let iff = instance-seen j right-premises he _ (l₁ ⊣ r₁) (l₂ ⊣ r₂) (omega (arith, length-map (t .premises) (λ (a : Added). t .kind)))
+        (principal-decoded (named .0) p (named .1) (is .0)) first-sides second-sides in
+        let same : seen (b .nodes) (map (λ (a : Added). t .kind) (t .premises)) (l₁ ⊣ r₁) (l₂ ⊣ r₂)
+        ≡ map (sequentWith (b .nodes) (t .kind)) (take count ((l₁ ⊣ r₁) ∷ (l₂ ⊣ r₂) ∷ [])) =
+        seen-alike (b .nodes) (t .kind) (t .premises) (l₁ ⊣ r₁) (l₂ ⊣ r₂) few
+        ∙ ap (λ (n : ℕ). map (sequentWith (b .nodes) (t .kind)) (take n ((l₁ ⊣ r₁) ∷ (l₂ ⊣ r₂) ∷ []))) (sym (counted ∙ many)) in
         let F = decodedAt (b .nodes) p in
         let s = sequentWith (b .nodes) (t .kind) (left ⊣ right) in
         let body : OfBody b (q .rule) t formulas handed =
@@ -250,6 +262,8 @@ module _ {b : Body} {q : Row} {formulas words rows leftPool rightPool left right
           left = (j .left-sided .rising, all-rise count l₁ l₂ (omega arith) (λ h. l₁-sided (omega arith) .rising) (λ h. l₂-sided (omega arith) .rising));
           right = (j .right-sided .rising, all-rise count r₁ r₂ (omega arith) (λ h. r₁-sided (omega arith) .rising) (λ h. r₂-sided (omega arith) .rising));
         } in
-        decides-iff
-        (λ x. iff .1 (subst (λ (ps : List Sequent). SchemaInstance t F ps s) (sym same) x), λ x. subst (λ (ps : List Sequent). SchemaInstance t F ps s) same (iff .0 x))
+        decides-iff (
+          λ x. iff .1 (subst (λ (ps : List Sequent). SchemaInstance t F ps s) (sym same) x),
+          λ x. subst (λ (ps : List Sequent). SchemaInstance t F ps s) same (iff .0 x),
+        )
         (decided (answer .instances b (q .rule) t body) rise)

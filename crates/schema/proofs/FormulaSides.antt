@@ -4,7 +4,7 @@ use Prim.Native.Nat.{ℕ, _≤_}
 use native.Mathlib.Omega.{arith}
 use mathlib.Core.Bool.{Bool, false, cond}
 use mathlib.Core.List.{List, [], _∷_, List·Memᴰ·head, List·Memᴰ·tail, List·Memᴰ·cases-cons, List·Memᴰ·not-nil}
-use mathlib.Core.Logic.{_⊎_, inl, inr, ⊎-elim, _↔_}
+use mathlib.Core.Logic.{inl, inr, ⊎-elim, _↔_}
 use mathlib.Core.Path.{_≡_, refl, sym, ap, subst, _∙_}
 use borrow.Author.Tests.{eq-eqb, ne-eqb}
 use lib.ListN.{length}
@@ -18,7 +18,7 @@ use Rattle.format.proofs.Formulas.{known-earlier, equal-numbers}
 use Rattle.format.proofs.GoodBodies.{Held}
 use Rattle.sides.specs.Numbers.{noNumber, missing, some?, numbersOf, numberSide}
 use Rattle.sides.specs.declared.numbers.Numbers.{Numbers}
-use Rattle.sides.proofs.Decoded.{in-decoded, decoded-in, number-on}
+use Rattle.format.proofs.Decoded.{in-decoded, decoded-in, number-on}
 use Rattle.schema.proofs.Standing.{Stands, StandFor}
 
 some-none : (n : ℕ) (ns : List ℕ) → n ≡ noNumber → some? n ns ≡ ns

@@ -31,8 +31,8 @@ use Rattle.schema.proofs.Apart.{PartsOf, parts-read, parts-whole}
 use Rattle.schema.proofs.Standing.{partsAt, two-parts, KnownParts, meantBy, added-stands}
 use Rattle.schema.proofs.FormulaSides.{SideStands, side-stands, SidesStand, shared-stand}
 
--- by one computed test of all rules
-two-at-most : (s : Rule) → length (premiseKinds (entry s)) < 3
+-- no rule has more than two premises, by one computed test
+pub two-at-most : (s : Rule) → length (premiseKinds (entry s)) < 3
 unfolding dec-all decLt
 two-at-most s = from-yes (dec-all (λ r. decLt (length (premiseKinds (entry r))) 3) rules) tt s (every-rule s)
 

@@ -12,7 +12,7 @@ use Rattle.format.specs.File.{Body, decodedAt, decoded}
 use Rattle.format.specs.Tests.{unknownFormula}
 use Rattle.format.proofs.GoodBodies.{Held}
 use Rattle.format.proofs.Formulas.{known-earlier}
-use Rattle.sides.proofs.Decoded.{in-decoded, decoded-in, number-on}
+use Rattle.format.proofs.Decoded.{in-decoded, decoded-in, number-on}
 use Rattle.sides.proofs.SharedSides.{shared-two}
 
 module _ (b : Body) (held : Held b) where

@@ -4,7 +4,5 @@ pub mod Sets
 pub mod Deciding
 pub mod SharedSides
 pub mod NumberSides
-pub mod Decoded
 pub mod DecodedSides
-mod Equal
 mod Either

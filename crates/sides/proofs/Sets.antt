@@ -1,17 +1,16 @@
--- Sides as sets of numbers: what `member` and `sameList` decide, when numbers but for two are all on another side, and what
+-- Sides as sets of numbers: what `member` decides, when numbers but for two are all on another side, and what
 -- strictly rising lists are like. Assumes nothing.
 use Prim.Native.Nat.{ℕ, zero, suc, _<_}
 use native.Mathlib.Omega.{arith}
 use mathlib.Core.Bool.{Bool, true, false, _||_, or-true, and-eq-true-iff, false≢true}
 use mathlib.Core.List.{List, [], _∷_, List·Memᴰ·head, List·Memᴰ·tail, List·Memᴰ·cases-cons, List·Memᴰ·not-nil}
-use mathlib.Core.Logic.{_⊎_, inl, inr, ⊎-elim, _↔_, _≢_}
+use mathlib.Core.Logic.{_⊎_, inl, inr, ⊎-elim, _↔_}
 use mathlib.Core.Path.{_≡_, refl, sym, ap, _∙_, subst}
 use borrow.Author.Tests.{eqb-true, eqb-false, eq-eqb, ne-eqb, ltb-true}
 use lib.Dec.{eqb, ltb}
 use lib.ListN.{length, getD}
 use Rattle.equilibrium.specs.Meaning.{_∈_}
-use Rattle.format.specs.Text.{all, any, sameList, strictlyRising}
-use Rattle.format.proofs.Booleans.{same-list, list-same}
+use Rattle.format.specs.Text.{all, any, strictlyRising}
 use Rattle.sides.specs.Members.{member}
 use Rattle.sides.specs.Covering.{Covered}
 
@@ -91,16 +90,6 @@ covered-iff a x y b = (
       λ e nx ny. member-iff z b .0 (last-of (eqb z x) (eqb z y) (member z b) .0 e (ne-eqb z x nx) (ne-eqb z y ny)),
       λ h. last-of (eqb z x) (eqb z y) (member z b) .1 (λ ex ey. member-iff z b .1 (h (eqb-false z x ex) (eqb-false z y ey))),
     )
-
-pub same-iff : (a b : List ℕ) → (sameList a b ≡ true) ↔ (a ≡ b)
-same-iff a b = (same-list a b, λ e. subst (λ (l : List ℕ). sameList a l ≡ true) e (list-same a))
-
-pub same-false : (a b : List ℕ) → (a ≡ b → ⊥) → sameList a b ≡ false
-same-false a b n = by (sameList a b) refl
-  where
-    by : (t : Bool) → sameList a b ≡ t → t ≡ false
-    by true e = absurd (n (same-iff a b .0 e))
-    by false e = refl
 
 -- in a strictly rising list a later number is greater
 pub rising-at : (xs : List ℕ) (i j : ℕ) → strictlyRising xs ≡ true → i < j → j < length xs → getD xs i 0 < getD xs j 0

@@ -2,14 +2,15 @@
 use Prim.Native.Nat.{ℕ, _+_, _-_, _≤_, _<_}
 use native.Mathlib.Omega.{arith}
 use mathlib.Core.Bool.{Bool, true, false, cond, _||_}
-use mathlib.Core.List.{List, [], _∷_, _++_}
+use mathlib.Core.List.{[], _∷_, _++_}
 use mathlib.Core.Path.{_≡_, refl, sym, ap, ap₂, _∙_}
 use borrow.Author.Tests.{le-leb, lt-leb, lt-ltb, le-ltb, ltb-true, ltb-false, leb-false}
 use lib.Dec.{ltb, leb}
 use lib.ListN.{length, length-append}
 use Rattle.format.specs.File.{Node, Row, Body, addNode, addRow}
-use Rattle.format.specs.Tables.{joinAll, mostAtoms, mostFormulas, mostRows, mostEntries}
+use Rattle.format.specs.Tables.{mostAtoms, mostFormulas, mostRows, mostEntries}
 use Rattle.format.proofs.Booleans.{or-false}
+use Rattle.format.proofs.GoodBodies.{joined-snoc}
 use Rattle.tables.specs.Counts.{countsOf, withAtom, withFormula, fullFor, withRow}
 use Rattle.tables.specs.declared.counts.Counts.{Counts}
 
@@ -22,21 +23,27 @@ passes-left held entries h = by-test (ltb (mostEntries - held) entries) refl
     by-test false e = sym (le-ltb mostEntries (held + entries) (omega (arith, ltb-false (mostEntries - held) entries e)))
 
 module _ (c : Counts) where
+  abbrev one-atom : Counts
+  one-atom = record { atoms = c .atoms + 1; formulas = c .formulas; rows = c .rows; left = c .left; right = c .right }
+
+  abbrev one-formula : Counts
+  one-formula = record { atoms = c .atoms; formulas = c .formulas + 1; rows = c .rows; left = c .left; right = c .right }
+
   pub atom-full : mostAtoms ≤ c .atoms → c ≡ withAtom c
   unfolding withAtom
-  atom-full h = sym (ap (λ (b : Bool). cond b c (record { atoms = c .atoms + 1; formulas = c .formulas; rows = c .rows; left = c .left; right = c .right })) (le-leb mostAtoms (c .atoms) h))
+  atom-full h = sym (ap (λ (b : Bool). cond b c one-atom) (le-leb mostAtoms (c .atoms) h))
 
-  pub atom-more : c .atoms < mostAtoms → record { atoms = c .atoms + 1; formulas = c .formulas; rows = c .rows; left = c .left; right = c .right } ≡ withAtom c
+  pub atom-more : c .atoms < mostAtoms → one-atom ≡ withAtom c
   unfolding withAtom
-  atom-more h = sym (ap (λ (b : Bool). cond b c (record { atoms = c .atoms + 1; formulas = c .formulas; rows = c .rows; left = c .left; right = c .right })) (lt-leb mostAtoms (c .atoms) h))
+  atom-more h = sym (ap (λ (b : Bool). cond b c one-atom) (lt-leb mostAtoms (c .atoms) h))
 
   pub formula-full : mostFormulas ≤ c .formulas → c ≡ withFormula c
   unfolding withFormula
-  formula-full h = sym (ap (λ (b : Bool). cond b c (record { atoms = c .atoms; formulas = c .formulas + 1; rows = c .rows; left = c .left; right = c .right })) (le-leb mostFormulas (c .formulas) h))
+  formula-full h = sym (ap (λ (b : Bool). cond b c one-formula) (le-leb mostFormulas (c .formulas) h))
 
-  pub formula-more : c .formulas < mostFormulas → record { atoms = c .atoms; formulas = c .formulas + 1; rows = c .rows; left = c .left; right = c .right } ≡ withFormula c
+  pub formula-more : c .formulas < mostFormulas → one-formula ≡ withFormula c
   unfolding withFormula
-  formula-more h = sym (ap (λ (b : Bool). cond b c (record { atoms = c .atoms; formulas = c .formulas + 1; rows = c .rows; left = c .left; right = c .right })) (lt-leb mostFormulas (c .formulas) h))
+  formula-more h = sym (ap (λ (b : Bool). cond b c one-formula) (lt-leb mostFormulas (c .formulas) h))
 
   module _ (left right : ℕ) where
     pub rows-full : mostRows ≤ c .rows → true ≡ fullFor c left right
@@ -76,11 +83,6 @@ module _ (c : Counts) where
     unfolding withRow
     row-more e = sym (ap (λ (b : Bool). cond b c more) e)
 
-joined-length : {A : Type 0} (f : A → List ℕ) (xs : List A) (x : A) → length (joinAll f (xs ++ x ∷ [])) ≡ length (joinAll f xs) + length (f x)
-joined-length f [] x = omega (arith, length-append (f x) [])
-joined-length f (y ∷ ys) x =
-    omega (arith, joined-length f ys x, length-append (f y) (joinAll f (ys ++ x ∷ [])), length-append (f y) (joinAll f ys))
-
 -- the counts of a body with one item more
 pub counts-atom : (b : Body) → b .atoms < mostAtoms
     → withAtom (countsOf b) ≡ countsOf (record { atoms = b .atoms + 1; nodes = b .nodes; rows = b .rows })
@@ -96,6 +98,6 @@ pub counts-row : (b : Body) (r : Row) → fullFor (countsOf b) (length (r .left)
     → withRow (countsOf b) (length (r .left)) (length (r .right)) ≡ countsOf (addRow b r)
 counts-row b r e =
     let rows : length (b .rows) + 1 ≡ length (b .rows ++ r ∷ []) = sym (length-append (b .rows) (r ∷ [])) in
-    let left = sym (joined-length (λ (q : Row). q .left) (b .rows) r) in
-    let right = sym (joined-length (λ (q : Row). q .right) (b .rows) r) in
+    let left = sym (joined-snoc (λ (q : Row). q .left) (b .rows) r) in
+    let right = sym (joined-snoc (λ (q : Row). q .right) (b .rows) r) in
     sym (row-more (countsOf b) (length (r .left)) (length (r .right)) e) ∙ cc

@@ -14,7 +14,8 @@ use Rattle.equilibrium.specs.Meaning.{_∈_}
 use Rattle.format.specs.Text.{Bytes, sameList}
 use Rattle.format.specs.File.{Node, Row, Name}
 use Rattle.elk.specs.Rules.{codeOf}
-use Rattle.format.specs.Tables.{Side, fetched, part, rowAt, padded, joinAll, nodeRecord, nameRecord, nameWidth, nodeWidth, rowWidth, rowRecord, recordsAfter, rowRecords}
+use Rattle.format.specs.Tables.{Side, fetched, part, rowAt, padded, joinAll, nodeRecord, nameRecord}
+use Rattle.format.specs.Tables.{nameWidth, nodeWidth, rowWidth, rowRecord, recordsAfter, rowRecords}
 use Rattle.tables.specs.Records.{onSide, written, nodeAt, rowOf}
 use Rattle.tables.specs.Holding.{Begins, HoldsNodes, HoldsRows}
 use Rattle.tables.specs.Names.{firstRecords, spelled, spelledBy, placeFrom, placeOf, StandsIn}
@@ -27,7 +28,8 @@ begins-padded e = record { rest = _; whole = e }
 first-record : (width n : ℕ) (front rest : List ℕ) → length front ≡ width → firstRecords width (suc n) (front ++ rest) ≡ front ∷ firstRecords width n rest
 unfolding firstRecords
 first-record width n front rest e =
-    ap (λ (b : Bool). cond b (take width (front ++ rest) ∷ firstRecords width n (drop width (front ++ rest))) []) (le-leb width _ (simp length-append (omega arith)))
+    ap (λ (b : Bool). cond b (take width (front ++ rest) ∷ firstRecords width n (drop width (front ++ rest))) [])
+    (le-leb width _ (simp length-append (omega arith)))
     ∙ ap₂ (λ (head tail : List ℕ). head ∷ firstRecords width n tail) (take-at front rest width e) (drop-at front rest width e)
 
 module _ {A : Type 0} (f : A → List ℕ) where
@@ -60,7 +62,8 @@ module _ {A : Type 0} (f : A → List ℕ) where
   module _ (width : ℕ) (same : (x : A) → length (f x) ≡ width) where
     joined-length : (xs : List A) → length (joinAll f xs) ≡ width * length xs
     joined-length [] = sym (mul-zero width)
-    joined-length (x ∷ xs) = length-append (f x) (joinAll f xs) ∙ ap₂ _+_ (same x) (joined-length xs) ∙ add-comm width (width * length xs) ∙ sym (mul-suc width (length xs))
+    joined-length (x ∷ xs) =
+        length-append (f x) (joinAll f xs) ∙ ap₂ _+_ (same x) (joined-length xs) ∙ add-comm width (width * length xs) ∙ sym (mul-suc width (length xs))
 
     records-joined : (xs : List A) (rest : List ℕ) → firstRecords width (length xs) (joinAll f xs ++ rest) ≡ map f xs
     unfolding firstRecords
@@ -148,8 +151,10 @@ module _ {rows : List Row} {table left right : List ℕ} (held : HoldsRows rows 
   -- record i of the rows table is that of row i, over the rows before it
   pub row-held : rowAt table i ≡ rowRecord (take i rows) (getD rows i d)
   row-held =
-      ap (λ (t : List ℕ). part t (rowWidth * i) rowWidth) (held .records .whole ∙ ap (λ (l : List ℕ). l ++ rest) split ∙ append-assoc (rowRecords (take i rows)) _ rest)
-      ∙ part-between (rowRecords (take i rows)) (rowRecord (take i rows) (getD rows i d)) (recordsAfter (take i rows ++ getD rows i d ∷ []) (drop (suc i) rows) ++ rest) (rowWidth * i) rowWidth
+      ap (λ (t : List ℕ). part t (rowWidth * i) rowWidth)
+      (held .records .whole ∙ ap (λ (l : List ℕ). l ++ rest) split ∙ append-assoc (rowRecords (take i rows)) _ rest)
+      ∙ part-between (rowRecords (take i rows)) (rowRecord (take i rows) (getD rows i d))
+      (recordsAfter (take i rows ++ getD rows i d ∷ []) (drop (suc i) rows) ++ rest) (rowWidth * i) rowWidth
       (rows-length (take i rows) ∙ ap (λ (k : ℕ). rowWidth * k) (length-take-le i rows (le-of-lt h))) refl
     where
       rest : List ℕ

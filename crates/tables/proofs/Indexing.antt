@@ -16,7 +16,7 @@ use Rattle.tables.specs.Records.{nodeAt, nodeOf, nodeNumbers}
 use Rattle.tables.specs.Holding.{HoldsNodes}
 use Rattle.tables.specs.Index.{slotWords, formulaWords, slotOf, slotAt, Last, Indexed, entered, NodeFound}
 use Rattle.tables.specs.declared.found.Found.{Found}
-use Rattle.tables.proofs.Equal.{same-false}
+use Rattle.format.proofs.Equal.{same-false}
 use Rattle.tables.proofs.Encoded.{node-held}
 
 module _ {X : Type 0} (test : X → Bool) where
@@ -58,7 +58,8 @@ module _ (nodes : List Node) (numbers : List ℕ) where
     pub walk-falls : (i : ℕ) → Cursor nodes numbers (suc i) → getD words (formulaWords + i) 0 ≤ i
     walk-falls i c = index .formulas i (omega (arith, c .within)) .within
 
-    pub walk-next : (i : ℕ) → Cursor nodes numbers (suc i) → (nodeRecord (getD nodes i Node.bot) ≡ numbers → ⊥) → Cursor nodes numbers (getD words (formulaWords + i) 0)
+    pub walk-next : (i : ℕ) → Cursor nodes numbers (suc i) → (nodeRecord (getD nodes i Node.bot) ≡ numbers → ⊥)
+        → Cursor nodes numbers (getD words (formulaWords + i) 0)
     walk-next i c other =
         let last = index .formulas i (omega (arith, c .within)) in
         let slot = c .of-slot i refl in
@@ -82,7 +83,8 @@ module _ (formulas words numbers : List ℕ) where
         missing = λ nodes held index e. let z : _≡_ {A = ℕ} 0 1 = cc in absurd (omega arith);
       }
 
-  pub found-nowhere : ((nodes : List Node) → HoldsNodes nodes formulas → Indexed nodes words → Cursor nodes numbers 0) → NodeFound formulas words numbers Found.Nowhere
+  pub found-nowhere : ((nodes : List Node) → HoldsNodes nodes formulas → Indexed nodes words → Cursor nodes numbers 0)
+      → NodeFound formulas words numbers Found.Nowhere
   found-nowhere ended =
       record {
         there = λ i e. let z : _≡_ {A = ℕ} 0 1 = cc in absurd (omega arith);
@@ -96,7 +98,11 @@ pub index-none : (words : List ℕ) → ((i : ℕ) → getD words i 0 ≡ 0) →
 index-none words zeros =
     record {
       few = omega arith;
-      slots = λ s h. record { none-later = λ j l e. absurd (omega arith); within = omega (arith, zeros (slotWords + s)); of-slot = λ i e. absurd (omega (arith, zeros (slotWords + s))) };
+      slots = λ s h. record {
+        none-later = λ j l e. absurd (omega arith);
+        within = omega (arith, zeros (slotWords + s));
+        of-slot = λ i e. absurd (omega (arith, zeros (slotWords + s)));
+      };
       formulas = λ i h. absurd (omega arith);
     }
 
@@ -148,7 +154,9 @@ module _ (nodes : List Node) (m : Node) where
 
     slot-now : (s : ℕ) → s < 1024 → Dec (s ≡ slotOf (nodeRecord m)) → Last more s (length more) (getD after (slotWords + s) 0)
     slot-now s h (yes e) =
-        subst (Last more s (length more)) (sym (ap (λ (k : ℕ). getD after (slotWords + k) 0) e ∙ getD-set-same linked place (length nodes + 1) 0 (omega (arith, length-set words (formulaWords + length nodes) (getD words place 0))))) (
+        subst (Last more s (length more))
+        (sym (ap (λ (k : ℕ). getD after (slotWords + k) 0) e
+        ∙ getD-set-same linked place (length nodes + 1) 0 (omega (arith, length-set words (formulaWords + length nodes) (getD words place 0))))) (
         record {
           none-later = λ j l k. omega (arith, longer);
           within = omega (arith, longer);
@@ -157,7 +165,9 @@ module _ (nodes : List Node) (m : Node) where
     slot-now s h (no n) =
         let last = index .slots s h in
         let kept = last-kept s (length nodes) (getD words (slotWords + s) 0) (omega arith) last in
-        subst (Last more s (length more)) (sym (getD-set-other linked place (slotWords + s) (length nodes + 1) 0 (λ e. n (omega arith)) ∙ getD-set-other words (formulaWords + length nodes) (slotWords + s) (getD words place 0) 0 (λ e. omega arith))) (
+        subst (Last more s (length more))
+        (sym (getD-set-other linked place (slotWords + s) (length nodes + 1) 0 (λ e. n (omega arith))
+        ∙ getD-set-other words (formulaWords + length nodes) (slotWords + s) (getD words place 0) 0 (λ e. omega arith))) (
         record {
           none-later = λ j l k. kept .none-later j (earlier j l k (decLt j (length nodes))) k;
           within = omega (arith, longer, last .within);
@@ -171,13 +181,17 @@ module _ (nodes : List Node) (m : Node) where
     formula-now : (i : ℕ) → i < length more → Dec (i < length nodes) → Last more (slotAt more i) i (getD after (formulaWords + i) 0)
     formula-now i h (yes l) =
         subst (λ (s : ℕ). Last more s i (getD after (formulaWords + i) 0)) (sym (slot-before i l)) (
-        subst (Last more (slotAt nodes i) i) (sym (getD-set-other linked place (formulaWords + i) (length nodes + 1) 0 (λ e. omega arith) ∙ getD-set-other words (formulaWords + length nodes) (formulaWords + i) (getD words place 0) 0 (λ e. omega arith)))
+        subst (Last more (slotAt nodes i) i)
+        (sym (getD-set-other linked place (formulaWords + i) (length nodes + 1) 0 (λ e. omega arith)
+        ∙ getD-set-other words (formulaWords + length nodes) (formulaWords + i) (getD words place 0) 0 (λ e. omega arith)))
         (last-kept (slotAt nodes i) i (getD words (formulaWords + i) 0) (omega arith) (index .formulas i l)))
     formula-now i h (no n) =
         let last : i ≡ length nodes = omega (arith, longer) in
         subst (λ (k : ℕ). Last more (slotAt more k) k (getD after (formulaWords + k) 0)) (sym last) (
         subst (λ (s : ℕ). Last more s (length nodes) (getD after (formulaWords + length nodes) 0)) (sym slot-last) (
-        subst (Last more (slotOf (nodeRecord m)) (length nodes)) (sym (getD-set-other linked place (formulaWords + length nodes) (length nodes + 1) 0 (λ e. omega arith) ∙ getD-set-same words (formulaWords + length nodes) (getD words place 0) 0 (omega arith)))
+        subst (Last more (slotOf (nodeRecord m)) (length nodes))
+        (sym (getD-set-other linked place (formulaWords + length nodes) (length nodes + 1) 0 (λ e. omega arith)
+        ∙ getD-set-same words (formulaWords + length nodes) (getD words place 0) 0 (omega arith)))
         (last-kept (slotOf (nodeRecord m)) (length nodes) (getD words place 0) (omega arith) (index .slots (slotOf (nodeRecord m)) (omega arith)))))
 
     pub index-more : Indexed more (entered words (length nodes) (nodeRecord m))
@@ -191,16 +205,23 @@ module _ (nodes : List Node) (m : Node) where
 
 -- entering a formula changes no length, and no word before those of the index
 module _ (words : List ℕ) (i : ℕ) (numbers : List ℕ) where
+  abbrev slot : ℕ
+  slot = slotWords + slotOf numbers
+
+  abbrev chained : List ℕ
+  chained = set words (formulaWords + i) (getD words slot 0)
+
   pub length-entered : length (entered words i numbers) ≡ length words
   length-entered = either (leb 1024 i)
     where
-      either : (b : Bool) → length (cond b words (set (set words (formulaWords + i) (getD words (slotWords + slotOf numbers) 0)) (slotWords + slotOf numbers) (i + 1))) ≡ length words
+      either : (b : Bool) → length (cond b words (set chained slot (i + 1))) ≡ length words
       either true = refl
       either false = simp length-set
 
   pub entered-before : (k : ℕ) → k < slotWords → getD (entered words i numbers) k 0 ≡ getD words k 0
   entered-before k h = either (leb 1024 i)
     where
-      either : (b : Bool) → getD (cond b words (set (set words (formulaWords + i) (getD words (slotWords + slotOf numbers) 0)) (slotWords + slotOf numbers) (i + 1))) k 0 ≡ getD words k 0
+      either : (b : Bool) → getD (cond b words (set chained slot (i + 1))) k 0 ≡ getD words k 0
       either true = refl
-      either false = getD-set-other (set words (formulaWords + i) (getD words (slotWords + slotOf numbers) 0)) (slotWords + slotOf numbers) k (i + 1) 0 (λ e. omega arith) ∙ getD-set-other words (formulaWords + i) k (getD words (slotWords + slotOf numbers) 0) 0 (λ e. omega arith)
+      either false =
+          getD-set-other chained slot k (i + 1) 0 (λ e. omega arith) ∙ getD-set-other words (formulaWords + i) k (getD words slot 0) 0 (λ e. omega arith)

@@ -112,8 +112,11 @@ module _ {b : Body} {formulas words formulas′ words′ : List ℕ} {count : �
   pub known-more : refersAhead b m ≡ false → count ≡ length (b .nodes) → count < mostFormulas → 3 * mostFormulas ≤ length words → Known (addNode b m) words′
   known-more earlier at room long =
       record {
-        atoms = λ i h p. subst (λ (w : ℕ). Member p w ↔ (p ∈ atomsOf (decodedAt (b .nodes ++ m ∷ []) i))) (sym (same i h)) (words-more b good words (known .atoms) m earlier (omega arith) (more .atoms) are i h p);
-        index = subst (λ (l : List ℕ). Indexed (b .nodes ++ m ∷ []) l) (sym noted) (index-more (b .nodes) m (set words (length (b .nodes)) (more .atoms)) kept (omega arith) (omega (arith, length-set words (length (b .nodes)) (more .atoms))));
+        atoms = λ i h p. subst (λ (w : ℕ). Member p w ↔ (p ∈ atomsOf (decodedAt (b .nodes ++ m ∷ []) i)))
+            (sym (same i h)) (words-more b good words (known .atoms) m earlier (omega arith) (more .atoms) are i h p);
+        index = subst (λ (l : List ℕ). Indexed (b .nodes ++ m ∷ []) l) (sym noted)
+            (index-more (b .nodes) m (set words (length (b .nodes)) (more .atoms)) kept
+            (omega arith) (omega (arith, length-set words (length (b .nodes)) (more .atoms))));
       }
     where
       are : (p : ℕ) → has (more .atoms) p ≡ occursBy words (nodeOf (nodeRecord m)) p

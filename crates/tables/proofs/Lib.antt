@@ -5,5 +5,4 @@ pub mod Counting
 pub mod Indexing
 pub mod Reading
 pub mod Knowing
-mod Equal
 mod Turns

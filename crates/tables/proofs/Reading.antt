@@ -24,9 +24,12 @@ pub data Told (b : Body) (n : NodeRecord) (F : Formula) : Type 0 where
   told-bot : n .word ≡ 0 → F ≡ falsum → Told b n F
   told-atom : n .word ≡ 1 → n .first < b .atoms → F ≡ atom (n .first) → Told b n F
   told-not : n .word ≡ 2 → n .first < length (b .nodes) → F ≡ neg (decodedAt (b .nodes) (n .first)) → Told b n F
-  told-and : n .word ≡ 3 → n .first < length (b .nodes) → n .second < length (b .nodes) → F ≡ conj (decodedAt (b .nodes) (n .first)) (decodedAt (b .nodes) (n .second)) → Told b n F
-  told-or : n .word ≡ 4 → n .first < length (b .nodes) → n .second < length (b .nodes) → F ≡ disj (decodedAt (b .nodes) (n .first)) (decodedAt (b .nodes) (n .second)) → Told b n F
-  told-imp : n .word ≡ 5 → n .first < length (b .nodes) → n .second < length (b .nodes) → F ≡ imp (decodedAt (b .nodes) (n .first)) (decodedAt (b .nodes) (n .second)) → Told b n F
+  told-and : n .word ≡ 3 → n .first < length (b .nodes) → n .second < length (b .nodes)
+      → F ≡ conj (decodedAt (b .nodes) (n .first)) (decodedAt (b .nodes) (n .second)) → Told b n F
+  told-or : n .word ≡ 4 → n .first < length (b .nodes) → n .second < length (b .nodes)
+      → F ≡ disj (decodedAt (b .nodes) (n .first)) (decodedAt (b .nodes) (n .second)) → Told b n F
+  told-imp : n .word ≡ 5 → n .first < length (b .nodes) → n .second < length (b .nodes)
+      → F ≡ imp (decodedAt (b .nodes) (n .first)) (decodedAt (b .nodes) (n .second)) → Told b n F
 
 module _ (b : Body) (i : ℕ) where
   earlier-known : (is : List ℕ) → unknownFormula (beforeNode b i) is ≡ false → (j : ℕ) → j ∈ is → j < length (b .nodes)
@@ -36,28 +39,37 @@ module _ (b : Body) (i : ℕ) where
   node-told Node.bot e = told-bot refl refl
   node-told (Node.atom k) e = told-atom refl (leb-false (b .atoms) k e) refl
   node-told (Node.not j) e = told-not refl (earlier-known (j ∷ []) e j (List·Memᴰ·head refl)) refl
-  node-told (Node.and j k) e = told-and refl (earlier-known (j ∷ k ∷ []) e j (List·Memᴰ·head refl)) (earlier-known (j ∷ k ∷ []) e k (List·Memᴰ·tail (List·Memᴰ·head refl))) refl
-  node-told (Node.or j k) e = told-or refl (earlier-known (j ∷ k ∷ []) e j (List·Memᴰ·head refl)) (earlier-known (j ∷ k ∷ []) e k (List·Memᴰ·tail (List·Memᴰ·head refl))) refl
-  node-told (Node.imp j k) e = told-imp refl (earlier-known (j ∷ k ∷ []) e j (List·Memᴰ·head refl)) (earlier-known (j ∷ k ∷ []) e k (List·Memᴰ·tail (List·Memᴰ·head refl))) refl
+  node-told (Node.and j k) e =
+      told-and refl (earlier-known (j ∷ k ∷ []) e j (List·Memᴰ·head refl)) (earlier-known (j ∷ k ∷ []) e k (List·Memᴰ·tail (List·Memᴰ·head refl))) refl
+  node-told (Node.or j k) e =
+      told-or refl (earlier-known (j ∷ k ∷ []) e j (List·Memᴰ·head refl)) (earlier-known (j ∷ k ∷ []) e k (List·Memᴰ·tail (List·Memᴰ·head refl))) refl
+  node-told (Node.imp j k) e =
+      told-imp refl (earlier-known (j ∷ k ∷ []) e j (List·Memᴰ·head refl)) (earlier-known (j ∷ k ∷ []) e k (List·Memᴰ·tail (List·Memᴰ·head refl))) refl
 
 -- record i of the formulas table tells formula i
 pub told : {b : Body} {table : List ℕ} → Formulas b table → (i : ℕ) → i < length (b .nodes) → Told b (nodeOf (nodeAt table i)) (decodedAt (b .nodes) i)
 told {b} {table} g i h =
     subst (λ (r : List ℕ). Told b (nodeOf r) (decodedAt (b .nodes) i)) (sym (node-held (g .table) i Node.bot h))
-    (subst (λ (F : Formula). Told b (nodeOf (nodeRecord (heldNode b i))) F) (sym (decoded-node (good-held (g .good)) i h)) (node-told b i (heldNode b i) (good-held (g .good) .earlier i h)))
+    (subst (λ (F : Formula). Told b (nodeOf (nodeRecord (heldNode b i))) F)
+    (sym (decoded-node (good-held (g .good)) i h)) (node-told b i (heldNode b i) (good-held (g .good) .earlier i h)))
 
 -- the same of a record that was read
-pub told-of : {b : Body} {table : List ℕ} {n : NodeRecord} {i j : ℕ} → Formulas b table → n ≡ nodeOf (nodeAt table i) → i ≡ j → j < length (b .nodes) → Told b n (decodedAt (b .nodes) j)
-told-of {b} {table} {n} {i} {j} g e k h = subst (λ (m : NodeRecord). Told b m (decodedAt (b .nodes) j)) (sym (e ∙ ap (λ (x : ℕ). nodeOf (nodeAt table x)) k)) (told g j h)
+pub told-of : {b : Body} {table : List ℕ} {n : NodeRecord} {i j : ℕ}
+    → Formulas b table → n ≡ nodeOf (nodeAt table i) → i ≡ j → j < length (b .nodes) → Told b n (decodedAt (b .nodes) j)
+told-of {b} {table} {n} {i} {j} g e k h =
+    subst (λ (m : NodeRecord). Told b m (decodedAt (b .nodes) j)) (sym (e ∙ ap (λ (x : ℕ). nodeOf (nodeAt table x)) k)) (told g j h)
 
 -- what a word says of the formula
 abbrev pub ByWord : Body → NodeRecord → Formula → ℕ → Type 0
 ByWord b n F zero = F ≡ falsum
 ByWord b n F (suc zero) = (n .first < b .atoms) × (F ≡ atom (n .first))
 ByWord b n F (suc (suc zero)) = (n .first < length (b .nodes)) × (F ≡ neg (decodedAt (b .nodes) (n .first)))
-ByWord b n F (suc (suc (suc zero))) = (n .first < length (b .nodes)) × (n .second < length (b .nodes)) × (F ≡ conj (decodedAt (b .nodes) (n .first)) (decodedAt (b .nodes) (n .second)))
-ByWord b n F (suc (suc (suc (suc zero)))) = (n .first < length (b .nodes)) × (n .second < length (b .nodes)) × (F ≡ disj (decodedAt (b .nodes) (n .first)) (decodedAt (b .nodes) (n .second)))
-ByWord b n F (suc (suc (suc (suc (suc zero))))) = (n .first < length (b .nodes)) × (n .second < length (b .nodes)) × (F ≡ imp (decodedAt (b .nodes) (n .first)) (decodedAt (b .nodes) (n .second)))
+ByWord b n F (suc (suc (suc zero))) =
+    (n .first < length (b .nodes)) × (n .second < length (b .nodes)) × (F ≡ conj (decodedAt (b .nodes) (n .first)) (decodedAt (b .nodes) (n .second)))
+ByWord b n F (suc (suc (suc (suc zero)))) =
+    (n .first < length (b .nodes)) × (n .second < length (b .nodes)) × (F ≡ disj (decodedAt (b .nodes) (n .first)) (decodedAt (b .nodes) (n .second)))
+ByWord b n F (suc (suc (suc (suc (suc zero))))) =
+    (n .first < length (b .nodes)) × (n .second < length (b .nodes)) × (F ≡ imp (decodedAt (b .nodes) (n .first)) (decodedAt (b .nodes) (n .second)))
 ByWord b n F (suc (suc (suc (suc (suc (suc k)))))) = ⊥
 
 pub by-word : {b : Body} {n : NodeRecord} {F : Formula} → Told b n F → {w : ℕ} → n .word ≡ w → ByWord b n F w

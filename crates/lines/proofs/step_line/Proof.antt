@@ -40,32 +40,45 @@ enum-told c = search needs
 
 atom-line-requires : tie.Need-atom-line-requires
 atom-line-requires c κs =
-    let read = c .before .before .before in
-    (omega arith, omega arith, read .before .before .read-fields .ensures, kind-is _ Atom (read .before .before .read-fields .ensures) (read .before .field .ensures) (read .line-kind .ensures) (c .before .enum-told .given .1))
+    let read = c .before .before .before in (
+      omega arith,
+      omega arith,
+      read .before .before .read-fields .ensures,
+      kind-is _ Atom (read .before .before .read-fields .ensures) (read .before .field .ensures) (read .line-kind .ensures) (c .before .enum-told .given .1),
+    )
 
 enum-told-2 : tie.Need-enum-told-2
 enum-told-2 c = search needs
 
 formula-line-requires : tie.Need-formula-line-requires
 formula-line-requires c κs =
-    let read = c .before .before .before .before in
-    (read .before .before .read-fields .ensures, kind-is _ Formula (read .before .before .read-fields .ensures) (read .before .field .ensures) (read .line-kind .ensures) (c .before .before .enum-told2 .given .1))
+    let read = c .before .before .before .before in (
+      read .before .before .read-fields .ensures,
+      kind-is _ Formula (read .before .before .read-fields .ensures)
+          (read .before .field .ensures) (read .line-kind .ensures) (c .before .before .enum-told2 .given .1),
+    )
 
 enum-told-3 : tie.Need-enum-told-3
 enum-told-3 c = search needs
 
 row-line-requires : tie.Need-row-line-requires
 row-line-requires c κs =
-    let read = c .before .before .before .before .before .before .before in
-    (read .before .before .read-fields .ensures, kind-is _ Row (read .before .before .read-fields .ensures) (read .before .field .ensures) (read .line-kind .ensures) (c .before .before .before .before .before .enum-told3 .given .1))
+    let read = c .before .before .before .before .before .before .before in (
+      read .before .before .read-fields .ensures,
+      kind-is _ Row (read .before .before .read-fields .ensures)
+          (read .before .field .ensures) (read .line-kind .ensures) (c .before .before .before .before .before .enum-told3 .given .1),
+    )
 
 enum-told-4 : tie.Need-enum-told-4
 enum-told-4 c = search needs
 
 claim-line-requires : tie.Need-claim-line-requires
 claim-line-requires c κs =
-    let read = c .before .before .before .before .before in
-    (read .before .before .read-fields .ensures, kind-is _ Claim (read .before .before .read-fields .ensures) (read .before .field .ensures) (read .line-kind .ensures) (c .before .before .before .enum-told4 .given .1))
+    let read = c .before .before .before .before .before in (
+      read .before .before .read-fields .ensures,
+      kind-is _ Claim (read .before .before .read-fields .ensures)
+          (read .before .field .ensures) (read .line-kind .ensures) (c .before .before .before .enum-told4 .given .1),
+    )
 
 enum-told-5 : tie.Need-enum-told-5
 enum-told-5 c = search needs
@@ -104,7 +117,8 @@ same-length-8 : tie.Need-same-length-8
 same-length-8 c = search needs
 
 returns-5 : tie.Need-returns-5
-returns-5 c = stepped _ _ _ _ _ _ (omega arith) (omega arith) _ _ (c .before .before .before .before .before .before .row-line .ensures _ _ (tables _ [] [] [] [] []))
+returns-5 c =
+    stepped _ _ _ _ _ _ (omega arith) (omega arith) _ _ (c .before .before .before .before .before .before .row-line .ensures _ _ (tables _ [] [] [] [] []))
 
 same-length-9 : tie.Need-same-length-9
 same-length-9 c = search needs
@@ -121,7 +135,9 @@ returns-6 c = stepped _ _ _ _ _ _ (omega arith) (omega arith) _ _ (c .claim-line
 returns-7 : tie.Need-returns-7
 returns-7 c =
     let read = c .before .before .before in
-    stepped-unknown _ _ _ _ _ _ (omega arith) (omega arith) _ (kind-is _ Unknown (read .before .before .read-fields .ensures) (read .before .field .ensures) (read .line-kind .ensures) (c .before .enum-told5 .given .1)) (c .refused3 .ensures)
+    stepped-unknown _ _ _ _ _ _ (omega arith) (omega arith) _
+    (kind-is _ Unknown (read .before .before .read-fields .ensures)
+    (read .before .field .ensures) (read .line-kind .ensures) (c .before .enum-told5 .given .1)) (c .refused3 .ensures)
 
 pub step-line-spec : {M : Type 1} → statement M
 step-line-spec =

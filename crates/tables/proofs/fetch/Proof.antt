@@ -17,7 +17,8 @@ module _ (rows left right : List ℕ) (row : ℕ) where
   outside : (side : Side) → length rows < rowWidth * row + rowWidth → fetched rows left right side row ≡ []
   unfolding fetched
   outside Side.left h = ap (λ (r : List ℕ). part left (getD r 4 0) (getD r 5 0)) (part-outside rows (rowWidth * row) rowWidth h) ∙ part-inside left 0 0 zero-le
-  outside Side.right h = ap (λ (r : List ℕ). part right (getD r 6 0) (getD r 7 0)) (part-outside rows (rowWidth * row) rowWidth h) ∙ part-inside right 0 0 zero-le
+  outside Side.right h =
+      ap (λ (r : List ℕ). part right (getD r 6 0) (getD r 7 0)) (part-outside rows (rowWidth * row) rowWidth h) ∙ part-inside right 0 0 zero-le
 
   module _ (h : rowWidth * row + rowWidth ≤ length rows) where
     field : (k : ℕ) → k < rowWidth → getD (part rows (rowWidth * row) rowWidth) k 0 ≡ getD rows (rowWidth * row + k) 0
@@ -73,7 +74,8 @@ returns-2 : tie.Need-returns-2
 returns-2 c =
     let args = c .before .before .before .before .before .before .before .before .args in
     c .part .ensures
-    ∙ sym (ap (λ (wanted : Bool). fetched (args .rows .now) (args .left .now) (args .right .now) (sideWanted wanted) (args .row)) (c .before .before .before .if2 .taken)
+    ∙ sym (ap (λ (wanted : Bool). fetched (args .rows .now) (args .left .now) (args .right .now) (sideWanted wanted) (args .row))
+    (c .before .before .before .if2 .taken)
     ∙ inside-left (args .rows .now) (args .left .now) (args .right .now) (args .row) (omega arith))
 
 add-part-3 : tie.Need-add-part-3
@@ -101,7 +103,8 @@ returns-3 : tie.Need-returns-3
 returns-3 c =
     let args = c .before .before .before .before .before .before .before .before .args in
     c .part2 .ensures
-    ∙ sym (ap (λ (wanted : Bool). fetched (args .rows .now) (args .left .now) (args .right .now) (sideWanted wanted) (args .row)) (c .before .before .before .if2 .left)
+    ∙ sym (ap (λ (wanted : Bool). fetched (args .rows .now) (args .left .now) (args .right .now) (sideWanted wanted) (args .row))
+    (c .before .before .before .if2 .left)
     ∙ inside-right (args .rows .now) (args .left .now) (args .right .now) (args .row) (omega arith))
 
 pub fetch-spec : {M : Type 1} → statement M

@@ -4,7 +4,7 @@ use mathlib.Core.Bool.{not, false≢true}
 use mathlib.Core.Path.{sym, ap, _∙_}
 use borrow.Author.Tests.{not-true, not-false}
 use Rattle.atomset.specs.AtomSet.{members}
-use Rattle.sides.proofs.Sets.{same-iff}
+use Rattle.format.proofs.Equal.{same-iff}
 use Rattle.unstable.proofs.Steps.{more-there}
 use Rattle.unstable.proofs.Words.{atoms-word, difference-word}
 use Rattle.unstable.proofs.Tests.{

@@ -13,4 +13,6 @@ abbrev μ-loop : tie.MeasureT-loop
 μ-loop table end₀ end = end
 
 pub used-spec : {M : Type 1} → statement M
-used-spec = tie.close (tie.spec Inv-loop μ-loop (λ c. search needs) (λ c. search needs) (λ c. search needs) (λ c. search needs) (λ c. counts _ _ (search needs)) (λ c. search needs) (λ c. search needs) (λ c. search needs) (λ c. counts _ _ (search needs)))
+used-spec =
+    tie.close (tie.spec Inv-loop μ-loop (λ c. search needs) (λ c. search needs) (λ c. search needs) (λ c. search needs)
+    (λ c. counts _ _ (search needs)) (λ c. search needs) (λ c. search needs) (λ c. search needs) (λ c. counts _ _ (search needs)))

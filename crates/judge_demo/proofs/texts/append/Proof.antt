@@ -15,4 +15,7 @@ abbrev μ-loop : tie.MeasureT-loop
 μ-loop text₀ at bytes end₀ i₀ text end i = length bytes - i
 
 pub append-spec : {M : Type 1} → statement M
-append-spec = tie.close (tie.spec Inv-loop μ-loop (λ c. search needs) (λ c. search needs) (λ c. counts _ _ (search needs)) (λ c. search needs) (λ c. search needs) (λ c. search needs) (λ c. search needs) (λ c. search needs) (λ c. (search needs, simp length-set (omega arith), simp length-set (search needs))) (λ c. search needs) (λ c. counts _ _ (search needs)))
+append-spec =
+    tie.close (tie.spec Inv-loop μ-loop (λ c. search needs) (λ c. search needs) (λ c. counts _ _ (search needs)) (λ c. search needs) (λ c. search needs)
+    (λ c. search needs) (λ c. search needs) (λ c. search needs) (λ c. (search needs, simp length-set (omega arith), simp length-set (search needs)))
+    (λ c. search needs) (λ c. counts _ _ (search needs)))

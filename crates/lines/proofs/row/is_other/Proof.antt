@@ -16,7 +16,9 @@ enum-told : tie.Need-enum-told
 enum-told c = search needs
 
 returns : tie.Need-returns
-returns c = c .out-of-order .ensures ∙ ap (λ (n : Number). otherIn n (c .before .before .before .before .before .args .state)) (sym (c .before .before .number .given .1))
+returns c =
+    c .out-of-order .ensures ∙ ap (λ (n : Number). otherIn n (c .before .before .before .before .before .args .state))
+    (sym (c .before .before .number .given .1))
 
 returns-2 : tie.Need-returns-2
 returns-2 c = search needs

@@ -15,7 +15,8 @@ refused-requires c κs = search needs
 returns : tie.Need-returns
 returns c text start t =
     let own = c .before .before .before .before .before .before .before .before .before in
-    line-bad (withRows t _ _ _ _ _) (line-no-row (own .args .line .now) (own .pre .1) (λ h. c .before .if1 .taken (own .pre .0 .counted ∙ h))) (c .refused .ensures)
+    line-bad (withRows t _ _ _ _ _) (line-no-row (own .args .line .now) (own .pre .1) (λ h. c .before .if1 .taken (own .pre .0 .counted ∙ h)))
+    (c .refused .ensures)
 
 slice-aggregate-read-row : tie.Need-slice-aggregate-read-row
 slice-aggregate-read-row c = search needs

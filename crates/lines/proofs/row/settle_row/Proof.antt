@@ -71,7 +71,8 @@ returns-3 c =
     let drafted = numbered .before .before .before .before in
     let ordered = drafted .before .before .before .before in
     settled-stored _ _ _ _ _ _ _ _ _ _ _ _ (sym (ordered .before .is-other .ensures) ∙ ordered .if1 .left) _ _ refl refl _ (drafted .drafted .ensures) _
-    (numbered .row-number .ensures) (stored .before .before .before .before .if2 .left) _ _ _ (stored .store-row .ensures) _ (c .before .with-row .ensures) (c .passed .ensures)
+    (numbered .row-number .ensures) (stored .before .before .before .before .if2 .left) _ _ _
+    (stored .store-row .ensures) _ (c .before .with-row .ensures) (c .passed .ensures)
 
 pub settle-row-spec : {M : Type 1} → statement M
 settle-row-spec =

@@ -21,7 +21,8 @@ returns : tie.Need-returns
 returns c b q j right-premises =
     let asked = c .before .before .before in
     let step = asked .rule-number .ensures ∙ asked-number j 0 (omega arith) in
-    default-decided j right-premises (is-default (entry (q .rule)) (sym step ∙ c .before .before .if1 .taken)) _ (c .before .principal-number .ensures) _ (c .default-step .ensures)
+    default-decided j right-premises (is-default (entry (q .rule)) (sym step ∙ c .before .before .if1 .taken)) _
+    (c .before .principal-number .ensures) _ (c .default-step .ensures)
 
 initial-step-requires : tie.Need-initial-step-requires
 initial-step-requires c κs = search needs

@@ -5,8 +5,7 @@ use native.Mathlib.Omega.{arith}
 use borrow.Author.Needs.{needs}
 use lib.ListN.{length, drop}
 use Rattle.format.specs.Text.{sameList}
-use Rattle.sides.proofs.Sets.{same-false}
-use Rattle.sides.proofs.Equal.{same-end, same-next, same-differs}
+use Rattle.format.proofs.Equal.{same-false, same-end, same-next, same-differs}
 use Rattle.sides.proofs.members.same.Statement.{statement}
 use Rattle.sides.proofs.members.same.Tie as tie
 

@@ -68,7 +68,8 @@ returns-4 : tie.Need-returns-4
 returns-4 c p =
     let args = c .before .before .before .before .before .args in
     has-zero p
-    ∙ sym (of-more (args .words .now) (args .key) p (c .before .before .before .if1 .left) (c .before .before .if2 .left) (c .before .if3 .left) (c .if4 .taken))
+    ∙ sym (of-more (args .words .now) (args .key) p (c .before .before .before .if1 .left)
+    (c .before .before .if2 .left) (c .before .if3 .left) (c .if4 .taken))
 
 word-at-requires-2 : tie.Need-word-at-requires-2
 word-at-requires-2 c κs = search needs

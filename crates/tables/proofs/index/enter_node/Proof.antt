@@ -61,7 +61,9 @@ returns-2 c =
     let s = asked .before .before .slot in
     c .before .before .put-word2 .ensures
     ∙ ap (λ (l : List ℕ). set l (slotWords + s .result) (i + 1)) (c .before .before .before .before .before .before .put-word .ensures)
-    ∙ inside words i (nodeNumbers (asked .before .before .before .before .before .args .key)) (asked .before .before .before .if1 .left) (s .result) (asked .word .result) (s .ensures) (asked .word .ensures)
+    ∙ inside words i (nodeNumbers (asked .before .before .before .before .before .args .key))
+    (asked .before .before .before .if1 .left) (s .result) (asked .word .result) (s .ensures) (asked .word .ensures)
 
 pub enter-node-spec : {M : Type 1} → statement M
-enter-node-spec = tie.close (tie.spec returns slot-requires add-at word-requires add-put-word put-word-requires add-put-word-2 put-word-requires-2 same-length returns-2)
+enter-node-spec =
+    tie.close (tie.spec returns slot-requires add-at word-requires add-put-word put-word-requires add-put-word-2 put-word-requires-2 same-length returns-2)

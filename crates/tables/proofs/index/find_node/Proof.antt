@@ -12,7 +12,7 @@ use Rattle.format.specs.Tables.{nodeRecord}
 use Rattle.tables.specs.Records.{nodeNumbers}
 use Rattle.tables.specs.Holding.{HoldsNodes}
 use Rattle.tables.specs.Index.{slotWords, Indexed}
-use Rattle.tables.proofs.Equal.{same-iff}
+use Rattle.format.proofs.Equal.{same-iff}
 use Rattle.tables.proofs.Indexing.{record-there, Cursor, walk-start, walk-next, walk-falls, found-at, found-nowhere}
 use Rattle.tables.proofs.index.find_node.Statement.{statement}
 use Rattle.tables.proofs.index.find_node.Tie as tie
@@ -36,7 +36,8 @@ word-requires c κs = search needs
 loop-holds : tie.Need-loop-holds Inv-loop μ-loop
 loop-holds c nodes held index =
     let args = c .before .before .before .before .args in
-    subst (Cursor nodes (nodeNumbers (args .key))) (sym (c .word .ensures ∙ ap (λ (s : ℕ). getD (args .words .now) (slotWords + s) 0) (c .before .slot .ensures)))
+    subst (Cursor nodes (nodeNumbers (args .key)))
+    (sym (c .word .ensures ∙ ap (λ (s : ℕ). getD (args .words .now) (slotWords + s) 0) (c .before .slot .ensures)))
     (walk-start nodes (nodeNumbers (args .key)) (args .words .now) index)
 
 sub-i : tie.Need-sub-i Inv-loop μ-loop
@@ -66,8 +67,10 @@ loop-again c nodes held index =
     let one-past : loop .after ≡ suc i = omega arith in
     let at : Cursor nodes (nodeNumbers (args .key)) (suc i) = subst (Cursor nodes (nodeNumbers (args .key))) one-past (loop .inv nodes held index) in
     let here : i < length nodes = omega (arith, at .within) in
-    let other : nodeRecord (getD nodes i Node.bot) ≡ nodeNumbers (args .key) → ⊥ = λ e. true≢false (sym (c .before .before .has-record .ensures ∙ same-iff _ _ .1 (record-there held i here ∙ e)) ∙ c .before .if1 .left) in
-    subst (Cursor nodes (nodeNumbers (args .key))) (sym (c .past-last .ensures .1 (omega (arith, index .few)) (walk-falls nodes (nodeNumbers (args .key)) (args .words .now) index i at)))
+    let other : nodeRecord (getD nodes i Node.bot) ≡ nodeNumbers (args .key) → ⊥ =
+    λ e. true≢false (sym (c .before .before .has-record .ensures ∙ same-iff _ _ .1 (record-there held i here ∙ e)) ∙ c .before .if1 .left) in
+    subst (Cursor nodes (nodeNumbers (args .key)))
+    (sym (c .past-last .ensures .1 (omega (arith, index .few)) (walk-falls nodes (nodeNumbers (args .key)) (args .words .now) index i at)))
     (walk-next nodes (nodeNumbers (args .key)) (args .words .now) index i at other)
 
 returns-2 : tie.Need-returns-2 Inv-loop μ-loop

@@ -10,7 +10,7 @@ use lib.ListN.{getD}
 use Rattle.format.specs.Text.{sameList}
 use Rattle.tables.specs.declared.records.NodeRecord.{NodeRecord}
 use Rattle.tables.specs.Records.{nodeNumbers}
-use Rattle.tables.proofs.Equal.{same-false}
+use Rattle.format.proofs.Equal.{same-false}
 use Rattle.tables.proofs.index.has_record.Statement.{statement}
 use Rattle.tables.proofs.index.has_record.Tie as tie
 
@@ -20,7 +20,9 @@ module _ (found key : NodeRecord) where
 
   by-second : found .word ≡ key .word → found .first ≡ key .first → eqb (found .second) (key .second) ≡ sameList (nodeNumbers found) (nodeNumbers key)
   unfolding sameList
-  by-second w f = last (eqb (found .second) (key .second)) ∙ ap₂ (λ (a b : Bool). a && (b && (eqb (found .second) (key .second) && true))) (sym (eq-eqb _ _ w)) (sym (eq-eqb _ _ f))
+  by-second w f =
+      last (eqb (found .second) (key .second)) ∙ ap₂ (λ (a b : Bool). a && (b && (eqb (found .second) (key .second) && true)))
+      (sym (eq-eqb _ _ w)) (sym (eq-eqb _ _ f))
     where
       last : (b : Bool) → b ≡ (b && true)
       last true = refl

@@ -55,7 +55,8 @@ spells-requires c κs = search needs
 returns : tie.Need-returns Inv-loop μ-loop
 returns c =
     let loop = c .before .before .before .before .before .loop in
-    sym (ap foundAs (found _ _ _ _ (loop .inv) (omega arith) (omega arith) (ap (spelledBy _ _) (two _ (nameWidth * loop .i) (omega arith)) ∙ sym (c .before .spells .ensures) ∙ c .if1 .taken)))
+    sym (ap foundAs (found _ _ _ _ (loop .inv) (omega arith) (omega arith)
+    (ap (spelledBy _ _) (two _ (nameWidth * loop .i) (omega arith)) ∙ sym (c .before .spells .ensures) ∙ c .if1 .taken)))
 
 add-i : tie.Need-add-i Inv-loop μ-loop
 add-i c = omega arith

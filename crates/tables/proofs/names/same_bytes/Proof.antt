@@ -5,7 +5,7 @@ use native.Mathlib.Omega.{arith}
 use borrow.Author.Needs.{needs}
 use lib.ListN.{length, drop}
 use Rattle.format.specs.Text.{sameList}
-use Rattle.tables.proofs.Equal.{same-false, same-end, same-next, same-differs}
+use Rattle.format.proofs.Equal.{same-false, same-end, same-next, same-differs}
 use Rattle.tables.proofs.names.same_bytes.Statement.{statement}
 use Rattle.tables.proofs.names.same_bytes.Tie as tie
 

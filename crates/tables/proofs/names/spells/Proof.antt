@@ -24,7 +24,8 @@ returns : tie.Need-returns
 unfolding spelled
 returns c =
     let args = c .before .before .before .before .before .args in
-    sym (ap (λ (inside : Bool). inside && sameList (take (args .len) (drop (args .start) (args .text .now))) (args .name .now)) (lt-leb (args .start + args .len) _ (omega arith)))
+    sym (ap (λ (inside : Bool). inside && sameList (take (args .len) (drop (args .start) (args .text .now))) (args .name .now))
+    (lt-leb (args .start + args .len) _ (omega arith)))
 
 sub-same-bytes : tie.Need-sub-same-bytes
 sub-same-bytes c = omega arith
@@ -46,7 +47,8 @@ returns-2 c =
     let count : from .result + c .before .before .before .wide2 .result - from .result ≡ args .len = omega arith in
     c .same-bytes .ensures
     ∙ ap₂ (λ (n start : ℕ). sameList (take n (drop start (args .text .now))) (args .name .now)) count (from .ensures)
-    ∙ sym (ap (λ (inside : Bool). inside && sameList (take (args .len) (drop (args .start) (args .text .now))) (args .name .now)) (le-leb (args .start + args .len) _ (omega arith)))
+    ∙ sym (ap (λ (inside : Bool). inside && sameList (take (args .len) (drop (args .start) (args .text .now))) (args .name .now))
+    (le-leb (args .start + args .len) _ (omega arith)))
 
 pub spells-spec : {M : Type 1} → statement M
 spells-spec =
