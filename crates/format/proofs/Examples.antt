@@ -8,14 +8,14 @@ use Rattle.format.specs.Line.{ruleOf, nodeOf, atomFields, formulaFields,
 use Rattle.format.specs.File.{formulas}
 use Rattle.format.specs.Tables.{Lent, tooShort}
 use Rattle.format.specs.Tests.{wrongPremises, wrongStep}
-use Rattle.format.specs.Judged.{Answer, accepted, turnedDown, judged, beginning, run, step, stepRead}
+use Rattle.format.specs.Judged.{Ruling, accepted, turnedDown, judged, beginning, run, step, stepRead}
 
 pub record Example : Type 0 where
   pub text : Bytes
-  pub answer : Answer
+  pub answer : Ruling
 
 infix 4 _earns_
-abbrev _earns_ : Bytes → Answer → Example
+abbrev _earns_ : Bytes → Ruling → Example
 text earns answer = record { text = text; answer = answer }
 
 -- tables of full length

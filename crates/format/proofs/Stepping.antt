@@ -12,7 +12,7 @@ use Rattle.format.specs.File.{Node, Row, File}
 use Rattle.format.specs.Line.{Line, atomLine, formulaLine, rowLine, claimLine, lineOf}
 use Rattle.format.specs.Tests.{Test, first, atomTests, formulaTests, rowTests, claimTests}
 use Rattle.format.specs.Judged.{Place, Outcome, next, refused, settled, orBadLine, stepRead, step, after, below}
-use Rattle.format.specs.Judged.{run, withAtom, withNode, withRow, withClaim, nameStart, Answer, turnedDown, orNoClaim, finish, runFrom, answerFrom}
+use Rattle.format.specs.Judged.{run, withAtom, withNode, withRow, withClaim, nameStart, Ruling, turnedDown, orNoClaim, finish, runFrom, answerFrom}
 
 -- the first test that applies gives its number
 
@@ -114,7 +114,7 @@ unfolding linesOf
 lines-last bs e = ap allButLast e
 
 -- the answer by what the line at a place comes to, and the lines after it
-abbrev answerBy : Place → Bytes → Bytes → Outcome File → Answer
+abbrev answerBy : Place → Bytes → Bytes → Outcome File → Ruling
 answerBy p line rest o =
     finish (after o (run step (below p line) (linesOf rest .complete))) (linesOf rest .rest) (p .line + 1 + length (linesOf rest .complete))
 

@@ -1,5 +1,5 @@
--- What is true of every accepted beginning of a file: of its body, by which one more row is judged, of its names, and of what
--- its lines have said.
+-- The invariant: what is true of every accepted beginning of a file, of its body, by which one more row is judged, of its names,
+-- and of what its lines have said.
 use Prim.Native.Nat.{ℕ, _<_, _≤_}
 use mathlib.Core.Path.{_≡_}
 use mathlib.Core.Bool.{true}

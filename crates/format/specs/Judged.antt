@@ -93,27 +93,27 @@ unfoldable pub beginning : Bytes → Outcome File
 beginning text = run step top (linesOf text .complete) noFile
 
 -- 01's number and line
-pub data Answer : Type 0 where
-  accepted : ℕ → Answer
-  turnedDown : ℕ → ℕ → Answer
+pub data Ruling : Type 0 where
+  accepted : ℕ → Ruling
+  turnedDown : ℕ → ℕ → Ruling
 
 -- the number of an answer: 0 if accepted
-abbrev pub numberIn : Answer → ℕ
+abbrev pub numberIn : Ruling → ℕ
 numberIn (accepted l) = 0
 numberIn (turnedDown n l) = n
 
 -- the line of an answer
-abbrev pub lineIn : Answer → ℕ
+abbrev pub lineIn : Ruling → ℕ
 lineIn (accepted l) = l
 lineIn (turnedDown n l) = l
 
 -- accepted with the claim's line, or 13 where there is none
-abbrev pub orNoClaim : Option Claim → ℕ → Answer
+abbrev pub orNoClaim : Option Claim → ℕ → Ruling
 orNoClaim none l = turnedDown 13 l
 orNoClaim (some c) l = accepted (c .line)
 
 -- after the last complete line: bytes with no LF are a bad line, and then a claim may be missing
-abbrev pub finish : Outcome File → Bytes → ℕ → Answer
+abbrev pub finish : Outcome File → Bytes → ℕ → Ruling
 finish (refused n k) rest l = turnedDown n k
 finish (next f) [] l = orNoClaim (f .claim) l
 finish (next f) (b ∷ bs) l = turnedDown 3 l
@@ -123,7 +123,7 @@ abbrev pub runFrom : Place → Bytes → File → Outcome File
 runFrom p bs f = run step p (linesOf bs .complete) f
 
 -- the answer to the lines from a place on
-abbrev pub answerFrom : Place → Bytes → File → Answer
+abbrev pub answerFrom : Place → Bytes → File → Ruling
 answerFrom p bs f = finish (runFrom p bs f) (linesOf bs .rest) (p .line + length (linesOf bs .complete))
 
 -- what a text can be refused for as a whole, with line 0
@@ -131,16 +131,16 @@ abbrev pub wholeTests : Lent → Bytes → List Test
 wholeTests t text = (1 when tooShort t) ∷ (2 when ltb mostBytes (length text)) ∷ []
 
 -- a text that is refused as a whole has line 0
-abbrev pub orWhole : Option ℕ → Answer → Answer
+abbrev pub orWhole : Option ℕ → Ruling → Ruling
 orWhole none answer = answer
 orWhole (some n) answer = turnedDown n 0
 
 -- the answer to a text, with tables of these lengths lent
-unfoldable pub judged : Lent → Bytes → Answer
+unfoldable pub judged : Lent → Bytes → Ruling
 judged t text = orWhole (first (wholeTests t text)) (answerFrom top text noFile)
 
 -- the file of an accepted text; nothing of another
-abbrev pub heldBy : Answer → Outcome File → Contents
+abbrev pub heldBy : Ruling → Outcome File → Contents
 heldBy (accepted l) (next f) = encode f
 heldBy (accepted l) (refused n k) = encode noFile
 heldBy (turnedDown n l) o = encode noFile

@@ -7,7 +7,7 @@ use mathlib.Core.Option.{Option, none, some}
 use lib.Dec.{eqb}
 use lib.ListN.{length, getD}
 use Rattle.elk.specs.Rules.{Rule, rules, wordOf}
-use Rattle.format.specs.Text.{Bytes, fieldsOf, numberOf, sideOf, premisesOf, principalOf, is, _<$>_, _<*>_, onlyIf}
+use Rattle.format.specs.Text.{Bytes, fieldsOf, numberOf, sideOf, premiseListOf, principalOf, is, _<$>_, _<*>_, onlyIf}
 use Rattle.format.specs.File.{Node, Row}
 
 -- the four kinds of line: A, F, N and C, with what they say
@@ -67,7 +67,7 @@ makeRow rule principal premises left right = record { rule = rule; principal = p
 -- rule, principal, premises, left, right
 abbrev pub rowOf : Bytes → Bytes → Bytes → Bytes → Bytes → Option Row
 rowOf word principal premises left right =
-    makeRow <$> ruleOf word <*> principalOf principal <*> premisesOf premises <*> sideOf left <*> sideOf right
+    makeRow <$> ruleOf word <*> principalOf principal <*> premiseListOf premises <*> sideOf left <*> sideOf right
 
 -- number, and the row
 unfoldable pub rowFields : List Bytes → Option Line

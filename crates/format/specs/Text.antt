@@ -132,8 +132,8 @@ abbrev pub sideOf : Bytes → Option (List ℕ)
 sideOf field = listOf field
 
 -- a list of row numbers
-abbrev pub premisesOf : Bytes → Option (List ℕ)
-premisesOf field = listOf field
+abbrev pub premiseListOf : Bytes → Option (List ℕ)
+premiseListOf field = listOf field
 
 -- a formula number, or `-` if absent
 unfoldable pub principalOf : Bytes → Option (Option ℕ)

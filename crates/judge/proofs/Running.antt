@@ -20,7 +20,7 @@ use Rattle.format.proofs.Beginnings.{step-good, good-start}
 use Rattle.text.specs.Parts.{nextAt, between}
 use Rattle.text.proofs.PartLaws.{next-bounds, next-part, last-part}
 use Rattle.tables.proofs.Indexing.{index-none}
-use Rattle.lines.specs.State.{Contents, Full, Steps, start, claimLine}
+use Rattle.lines.specs.State.{Memory, Full, Steps, start, claimLine}
 use Rattle.lines.specs.Stepping.{LineStepped}
 use Rattle.lines.specs.declared.state.State.{State}
 use Rattle.lines.specs.declared.state.Stepped.{Stepped}
@@ -30,7 +30,7 @@ use Rattle.judge.specs.declared.Answer.{Answer}
 use Rattle.judge.specs.declared.Ran.{Ran}
 
 -- before the first line, in clear tables
-pub running-start : (text : Bytes) (t : Contents) → Full t → Zeros (five (t .names) (t .formulas) (t .rows) (t .left) (t .right))
+pub running-start : (text : Bytes) (t : Memory) → Full t → Zeros (five (t .names) (t .formulas) (t .rows) (t .left) (t .right))
     → t .words ≡ replicate (length (t .words)) 0 → Running text 1 0 start t
 unfolding beginning
 running-start text t full zeros no-words =
@@ -70,10 +70,10 @@ running-start text t full zeros no-words =
     empty : (xs : List ℕ) → xs ≡ replicate (length xs) 0 → xs ≡ padded (length xs) []
     empty xs e = e ∙ ap (λ (n : ℕ). replicate n 0) (sym (sub-zero (length xs)))
 
-module _ (text : Bytes) (line at : ℕ) (s : State) (t : Contents) (r : Running text line at s t) where
+module _ (text : Bytes) (line at : ℕ) (s : State) (t : Memory) (r : Running text line at s t) where
   -- the line that ends at an LF
   module _ (end : ℕ) (few : length text ≤ mostBytes) (found : end ≡ nextAt lineFeed text at) (inside : end < length text)
-      (stepped : Stepped) (u : Contents) (steps : LineStepped text at end line s stepped t u) where
+      (stepped : Stepped) (u : Memory) (steps : LineStepped text at end line s stepped t u) where
     from : at ≤ end
     from = omega (arith, found, next-bounds lineFeed text at (r .within) .0)
 
@@ -124,7 +124,7 @@ module _ (text : Bytes) (line at : ℕ) (s : State) (t : Contents) (r : Running 
 
   -- what the run comes to, at a line that is refused
   pub runs-refused : (end : ℕ) → length text ≤ mostBytes → end ≡ nextAt lineFeed text at → end < length text
-      → (stepped : Stepped) (u : Contents) → LineStepped text at end line s stepped t u → (stepped .number ≡ 0 → ⊥)
+      → (stepped : Stepped) (u : Memory) → LineStepped text at end line s stepped t u → (stepped .number ≡ 0 → ⊥)
       → Runs text (record { number = stepped .number; line = stepped .line; at = at; state = stepped .state }) u
   runs-refused end few found inside stepped u steps ne =
       record {
@@ -139,7 +139,7 @@ module _ (text : Bytes) (line at : ℕ) (s : State) (t : Contents) (r : Running 
 
 -- the answer after the complete lines
 
-module _ (text : Bytes) (ran : Ran) (t : Contents) (runs : Runs text ran t) where
+module _ (text : Bytes) (ran : Ran) (t : Memory) (runs : Runs text ran t) where
   -- a line was refused
   pub ends-refused : (ran .number ≡ 0 → ⊥) → Refuses text (record { number = ran .number; line = ran .line })
   ends-refused ne = record { number = ne; line = runs .refused ne }

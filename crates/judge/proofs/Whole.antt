@@ -13,13 +13,11 @@ use Rattle.format.specs.Text.{Bytes}
 use Rattle.format.specs.File.{noFile}
 use Rattle.format.specs.Tests.{Test, _when_, first}
 use Rattle.format.specs.Tables.{Lent, least, tooShort, padded, Contents, encode, mostFormulas, mostBytes}
-use Rattle.format.specs.Judged
-use Rattle.format.specs.Judged.{accepted, turnedDown, numberIn, lineIn, top, beginning, answerFrom, wholeTests, orWhole, judged, heldBy, contents}
+use Rattle.format.specs.Judged.{Ruling, accepted, turnedDown, numberIn, lineIn, top, beginning, answerFrom, wholeTests, orWhole, judged, heldBy, contents}
 use Rattle.format.proofs.Booleans.{or-false}
 use Rattle.format.proofs.Stepping.{first-applies, first-passes}
 use Rattle.format.proofs.Accepted.{accepted-holds}
-use Rattle.lines.specs.State
-use Rattle.lines.specs.State.{Full, tables}
+use Rattle.lines.specs.State.{Full, Memory}
 use Rattle.judge.specs.Contract.{five, lengths, filled, clear, Judges, Accepts, Refuses, Zeros}
 use Rattle.judge.specs.declared.Answer.{Answer}
 
@@ -46,9 +44,9 @@ module _ (text : Bytes) (lent : Lent) where
   unfolding short long
   judged-read e h = by-tests none (first-passes short (long ∷ []) e ∙ first-passes long [] (le-ltb mostBytes (length text) h))
 
-  contents-by : (a : Judged.Answer) → judged lent text ≡ a → contents lent text ≡ heldBy a (beginning text)
+  contents-by : (a : Ruling) → judged lent text ≡ a → contents lent text ≡ heldBy a (beginning text)
   unfolding contents
-  contents-by a e = ap (λ (b : Judged.Answer). heldBy b (beginning text)) e
+  contents-by a e = ap (λ (b : Ruling). heldBy b (beginning text)) e
 
   module _ (t : Contents) (answer : Answer) (same : lengths t ≡ lent) where
     -- a refusal that left every table clear
@@ -107,7 +105,7 @@ module _ {text : Bytes} {t : Contents} {answer : Answer} (ran : Accepts text t a
   refuses n = ⊎-elim (λ a. absurd (n (a .number))) (λ r. r) ran
 
 -- tables that are long enough are full
-pub long-enough : (t : State.Contents) → tooShort (lengths (five (t .names) (t .formulas) (t .rows) (t .left) (t .right))) ≡ false
+pub long-enough : (t : Memory) → tooShort (lengths (five (t .names) (t .formulas) (t .rows) (t .left) (t .right))) ≡ false
     → 3 * mostFormulas ≤ length (t .words) → Full t
 unfolding tooShort
 long-enough t e w =

@@ -9,7 +9,7 @@ use Rattle.format.specs.File.{File, noFile}
 use Rattle.format.specs.Judged.{Place, top, beginning, turnedDown, runFrom, answerFrom}
 use Rattle.format.specs.Good.{Good}
 use Rattle.text.specs.Parts.{nextAt}
-use Rattle.lines.specs.State.{Contents, Stored}
+use Rattle.lines.specs.State.{Memory, Stored}
 use Rattle.lines.specs.declared.state.State.{State}
 use Rattle.judge.specs.declared.Ran.{Ran}
 
@@ -17,7 +17,7 @@ abbrev pub place : ℕ → ℕ → Place
 place line at = record { line = line; start = at }
 
 -- the file of the lines before a place is stored, and what is left of the text decides the answer
-pub record Running (text : Bytes) (line at : ℕ) (s : State) (t : Contents) : Type 0 where
+pub record Running (text : Bytes) (line at : ℕ) (s : State) (t : Memory) : Type 0 where
   pub done : List Bytes
   pub file : File
   pub good : Good done file
@@ -28,7 +28,7 @@ pub record Running (text : Bytes) (line at : ℕ) (s : State) (t : Contents) : T
   pub outcome : beginning text ≡ runFrom (place line at) (drop at text) file
 
 -- All complete lines have passed, and the run stands after the last one; or the text is refused with a line's number.
-pub record Runs (text : Bytes) (r : Ran) (t : Contents) : Type 0 where
+pub record Runs (text : Bytes) (r : Ran) (t : Memory) : Type 0 where
   pub passed : r .number ≡ 0 → Running text (r .line) (r .at) (r .state) t
   pub all : r .number ≡ 0 → length text ≤ nextAt lineFeed text (r .at)
   pub refused : (r .number ≡ 0 → ⊥) → answerFrom top text noFile ≡ turnedDown (r .number) (r .line)

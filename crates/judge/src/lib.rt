@@ -6,7 +6,7 @@ ghost use mathlib.Core.Logic.{_⊎_};
 ghost use Prim.Native.Nat.{_≤_};
 ghost use lib.ListN.{length, replicate};
 ghost use Rattle.format.specs.Tables.{tooShort, mostBytes};
-ghost use Rattle.lines.specs.State.{Contents, Full, tables};
+ghost use Rattle.lines.specs.State.{Memory, Full, tables};
 ghost use Rattle.judge.specs.Contract.{five, lengths, Judges, Checks, Accepts, Refuses, Zeros};
 ghost use Rattle.judge.specs.Running.{Runs};
 use lines::state::CLAIMED;
@@ -100,7 +100,7 @@ fn run(
 
 // The answer after the complete lines: bytes with no line feed are a bad line, and then a claim may be missing.
 fn finish(text: &[u8], ran: Ran) -> Answer
-    ensures { λ r. ⌜ ((t : Contents) → Runs (now (text .entry)) ran t
+    ensures { λ r. ⌜ ((t : Memory) → Runs (now (text .entry)) ran t
         → Accepts (now (text .entry)) (five (t .names) (t .formulas) (t .rows) (t .left) (t .right)) r ⊎ Refuses (now (text .entry)) r) ⌝ }
 {
     if ran.number != 0 {

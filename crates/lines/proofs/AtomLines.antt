@@ -34,7 +34,7 @@ use Rattle.tables.specs.declared.found.Found.{Found}
 use Rattle.tables.proofs.Counting.{counts-atom}
 use Rattle.tables.proofs.Encoded.{begins-padded, names-length, name-found}
 use Rattle.rows.specs.Early.{numbered}
-use Rattle.lines.specs.State.{refusedBy, passedBy, notNext, Contents, Exactly, Stored}
+use Rattle.lines.specs.State.{refusedBy, passedBy, notNext, Memory, Exactly, Stored}
 use Rattle.lines.specs.Lined.{OfKind}
 use Rattle.lines.specs.AtomLines.{AtomNumbered, AtomLined, withNames}
 use Rattle.lines.specs.declared.state.State.{State}
@@ -242,7 +242,7 @@ newNumbers start line = (startIn start line % 65536) ∷ (length (nameIn line) %
 abbrev namesWith : List ℕ → State → ℕ → Bytes → List ℕ
 namesWith names s start line = written names (nameWidth * s .counts .atoms) (newNumbers start line)
 
-module _ {text line : Bytes} {start : ℕ} (at : NameAt text start line) (f : File) (p : Place) {s : State} {t : Contents}
+module _ {text line : Bytes} {start : ℕ} (at : NameAt text start line) (f : File) (p : Place) {s : State} {t : Memory}
     (stored : Stored text f s t) (many : length (f .names) ≡ f .body .atoms) (size : length text ≤ mostBytes) (placed : p .start ≡ start)
     (room : s .counts .atoms < mostAtoms) (named : isName (nameIn line) ≡ true) where
   abbrev new : Name
@@ -313,7 +313,7 @@ atom-bad names e given t = line-bad (withNames t names) e given
 
 module _ (text : Bytes) (start : ℕ) (line : Bytes) (number : ℕ) (s : State) (r : Stepped) (names : List ℕ) (n : ℕ)
     (read : lineOf line ≡ some (atomLine n (nameIn line))) (k : ℕ) (numbers : AtomNumbered text names s n (nameIn line) k) where
-  tests-of : (t : Contents) (f : File) (done : List Bytes) → Good done f → Stored text f s (withNames t names)
+  tests-of : (t : Memory) (f : File) (done : List Bytes) → Good done f → Stored text f s (withNames t names)
       → numbered k ≡ first (atomTests f n (nameIn line))
   tests-of t f done good stored =
       numbers .tests f (ap (λ (c : Counts). c .atoms) (stored .counts)) (good .names .count) (stored .stage) (stored .names-in)

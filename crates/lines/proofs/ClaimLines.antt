@@ -34,7 +34,7 @@ use Rattle.rows.specs.Early.{pastOf, numbered}
 use Rattle.rows.specs.Judgement.{Laid}
 use Rattle.rows.proofs.EarlyTests.{past-listed}
 use Rattle.rows.proofs.Numbering.{first-append, numbered-some}
-use Rattle.lines.specs.State.{refusedBy, Contents, Stored}
+use Rattle.lines.specs.State.{refusedBy, Memory, Stored}
 use Rattle.lines.specs.Lined.{OfKind}
 use Rattle.lines.specs.ClaimLines.{claimOf, withTables, ClaimSettled, ClaimLined}
 use Rattle.lines.specs.declared.state.State.{State}
@@ -130,7 +130,7 @@ claimAt line xs ys = record { line = line; left = xs; right = ys }
 abbrev claimedBy : State → ℕ → Stepped
 claimedBy s line = record { number = 0; line = line; state = record { counts = s .counts; stage = 3; claim = line } }
 
-module _ {text : Bytes} {f : File} {s : State} {t : Contents} (stored : Stored text f s t) where
+module _ {text : Bytes} {f : File} {s : State} {t : Memory} (stored : Stored text f s t) where
   formulas-held : s .counts .formulas ≡ length (f .body .nodes)
   formulas-held = ap (λ (c : Counts). c .formulas) (stored .counts)
 
@@ -224,7 +224,7 @@ module _ (antecedent succedent : Listed) (number : ℕ) (l r rows left right : L
       }
 
   module _ (zero-k : k ≡ 0) (b : Bool) (lasts : Lasts b antecedent succedent l r rows left right s) where
-    told : {text : Bytes} {f : File} (t : Contents) {xs ys : List ℕ} {done : List Bytes} → Stored text f s (withTables t rows left right) → Good done f
+    told : {text : Bytes} {f : File} (t : Memory) {xs ys : List ℕ} {done : List Bytes} → Stored text f s (withTables t rows left right) → Good done f
         → Laid xs antecedent l → Laid ys succedent r → first (claimTests f xs ys) ≡ cond (not b) (some 12) none
     told {f = f} t stored good x y =
         claim-late stored x y k e zero-k good b (lasts (f .body .rows) (rows-held stored) (ap (λ (c : Counts). c .rows) (stored .counts)))

@@ -15,7 +15,7 @@ use Rattle.text.specs.Words.{kindOf, KindRead}
 use Rattle.text.specs.declared.words.Kind.{Kind}
 use Rattle.text.specs.declared.words.Kind.the-variants.{Atom, Formula, Row, Claim, Unknown}
 use Rattle.text.specs.declared.parts.Fields.{Fields}
-use Rattle.lines.specs.State.{refusedBy, Contents}
+use Rattle.lines.specs.State.{refusedBy, Memory}
 use Rattle.lines.specs.Lined.{Lined}
 use Rattle.lines.specs.Stepping.{LineStepped}
 use Rattle.lines.specs.declared.state.State.{State}
@@ -57,13 +57,13 @@ kind-is line {first = first} kind fielded part found told =
     subst (Named kind) (part .field fielded (omega arith)) (subst (λ (k : Kind). Named k first) (sym (found .answer) ∙ told) (named first))
 
 module _ (text : Bytes) (start end number : ℕ) (s : State) (r : Stepped) where
-  pub stepped-outside : (t : Contents) → ((start ≤ end) × (end ≤ length text) → ⊥) → r ≡ refusedBy s badLine number → LineStepped text start end number s r t t
+  pub stepped-outside : (t : Memory) → ((start ≤ end) × (end ≤ length text) → ⊥) → r ≡ refusedBy s badLine number → LineStepped text start end number s r t t
   stepped-outside t h given = record { inside = λ a b. absurd (h (a, b)); outside = λ _. (given, refl) }
 
   module _ (ordered : start ≤ end) (within : end ≤ length text) where
-    pub stepped : (t u : Contents) → Lined text start (between text start end) number s r t u → LineStepped text start end number s r t u
+    pub stepped : (t u : Memory) → Lined text start (between text start end) number s r t u → LineStepped text start end number s r t u
     stepped t u lined = record { inside = λ a b. lined; outside = λ h. absurd (h (ordered, within)) }
 
-    pub stepped-unknown : (t : Contents) → Named Unknown (getD (fieldsOf (between text start end)) 0 []) → r ≡ refusedBy s badLine number
+    pub stepped-unknown : (t : Memory) → Named Unknown (getD (fieldsOf (between text start end)) 0 []) → r ≡ refusedBy s badLine number
         → LineStepped text start end number s r t t
     stepped-unknown t e given = stepped t t (line-bad t (unknown-line (between text start end) e) given)

@@ -37,7 +37,7 @@ use Rattle.tables.proofs.Counting.{counts-node}
 use Rattle.tables.proofs.Encoded.{nodes-length}
 use Rattle.tables.proofs.Indexing.{length-entered, record-there}
 use Rattle.tables.proofs.Knowing.{known-more}
-use Rattle.lines.specs.State.{refusedBy, passedBy, notNext, Contents, Exactly, Stored}
+use Rattle.lines.specs.State.{refusedBy, passedBy, notNext, Memory, Exactly, Stored}
 use Rattle.lines.specs.Lined.{OfKind, Lined}
 use Rattle.lines.specs.FormulaLines.{writtenAs, narrowed, aheadIn, FormulaNumbered, FormulaLined, withFormulas}
 use Rattle.rows.specs.Early.{numbered}
@@ -422,7 +422,7 @@ module _ (line : Bytes) (number : ℕ) (s : State) (formulas words : List ℕ) (
   abbrev m : Node
   m = read .formula
 
-  module _ {text : Bytes} {f : File} {done : List Bytes} (t : Contents) (p : Place) (good : Good done f)
+  module _ {text : Bytes} {f : File} {done : List Bytes} (t : Memory) (p : Place) (good : Good done f)
       (stored : Stored text f s (withFormulas t formulas words)) where
     abbrev nodes : List Node
     nodes = f .body .nodes
@@ -536,7 +536,7 @@ module _ (line : Bytes) (number : ℕ) (s : State) (formulas words : List ℕ) (
     pub formula-held : {r : Stepped} (i : ℕ) → entry ≡ Entry.Held i → r ≡ refusedBy s 8 number → FormulaLined line number s r formulas words formulas′ words′
     formula-held {r} i is-held e text start t =
         let parts = entered-held entered i is-held in
-        subst (λ (u : Contents). Lined text start line number s r (withFormulas t formulas words) u) (ap₂ (withFormulas t) (sym (parts .1)) (sym (parts .2)))
+        subst (λ (u : Memory). Lined text start line number s r (withFormulas t formulas words) u) (ap₂ (withFormulas t) (sym (parts .1)) (sym (parts .2)))
         (line-refused 8 _ e (λ f p done good stored. again-refused t p good stored z key is-key i (parts .0)))
 
     pub formula-full : {r : Stepped} → entry ≡ Entry.Full → FormulaLined line number s r formulas words formulas′ words′

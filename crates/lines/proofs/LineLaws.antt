@@ -44,7 +44,7 @@ use Rattle.tables.specs.Holding.{HoldsNodes, HoldsRows}
 use Rattle.tables.proofs.Encoded.{begins-padded, put-encoded}
 use Rattle.rows.specs.Early.{numbered}
 use Rattle.rows.specs.Judgement.{Narrow, Laid, Ground}
-use Rattle.lines.specs.State.{refusedBy, outOfTurn, notNext, Contents, SameLengths, Exactly, Stored, Steps, Keeps}
+use Rattle.lines.specs.State.{refusedBy, outOfTurn, notNext, Memory, SameLengths, Exactly, Stored, Steps, Keeps}
 use Rattle.lines.specs.Lined.{OfKind, Lined}
 use Rattle.lines.specs.declared.state.State.{State}
 use Rattle.lines.specs.declared.state.Stepped.{Stepped}
@@ -234,30 +234,30 @@ none-given (suc k) o e z = absurd (omega arith)
 
 -- ---- what holds in any tables
 
-pub same-lengths : (t : Contents) → SameLengths t t
+pub same-lengths : (t : Memory) → SameLengths t t
 same-lengths t = record { names = refl; formulas = refl; words = refl; rows = refl; left = refl; right = refl }
 
 module _ {s : State} {r : Stepped} where
-  pub keeps-refused : {n line : ℕ} (t : Contents) → r ≡ refusedBy s n line → Keeps s r t t
+  pub keeps-refused : {n line : ℕ} (t : Memory) → r ≡ refusedBy s n line → Keeps s r t t
   keeps-refused t e = record { kept = λ h. (refl, ap (λ (x : Stepped). x .state) e); lengths = same-lengths t }
 
-  pub keeps-passed : {t u : Contents} → r .number ≡ 0 → SameLengths t u → Keeps s r t u
+  pub keeps-passed : {t u : Memory} → r .number ≡ 0 → SameLengths t u → Keeps s r t u
   keeps-passed e same = record { kept = λ h. absurd (h e); lengths = same }
 
 -- ---- what a line comes to
 
-pub steps-refused : (text : Bytes) {o : Outcome File} {s : State} {r : Stepped} (t : Contents) (n line : ℕ) {l : ℕ} → o ≡ refused n l → l ≡ line
+pub steps-refused : (text : Bytes) {o : Outcome File} {s : State} {r : Stepped} (t : Memory) (n line : ℕ) {l : ℕ} → o ≡ refused n l → l ≡ line
     → r ≡ refusedBy s n line → Steps text o r t
 steps-refused text {r = r} t n line e at given =
     subst (λ (x : Outcome File). Steps text x r t) (sym e) (ap (λ (x : Stepped). x .number) given, ap (λ (x : Stepped). x .line) given ∙ sym at)
 
-pub steps-next : {text : Bytes} {o : Outcome File} (r : Stepped) {t : Contents} (f : File) → o ≡ next f → r .number ≡ 0 → Stored text f (r .state) t
+pub steps-next : {text : Bytes} {o : Outcome File} (r : Stepped) {t : Memory} (f : File) → o ≡ next f → r .number ≡ 0 → Stored text f (r .state) t
     → Steps text o r t
 steps-next {text} r {t} f e zero-number stored = subst (λ (x : Outcome File). Steps text x r t) (sym e) (zero-number, stored)
 
 module _ {text : Bytes} {start : ℕ} {line : Bytes} {number : ℕ} {s : State} {r : Stepped} where
   -- a line that every accepted beginning refuses with a number
-  pub line-refused : (n : ℕ) (t : Contents) → r ≡ refusedBy s n number
+  pub line-refused : (n : ℕ) (t : Memory) → r ≡ refusedBy s n number
       → ((f : File) (p : Place) (done : List Bytes) → Good done f → Stored text f s t → step f p line ≡ refused n (p .line))
       → Lined text start line number s r t t
   line-refused n t given by =
@@ -267,7 +267,7 @@ module _ {text : Bytes} {start : ℕ} {line : Bytes} {number : ℕ} {s : State} 
       }
 
   -- a line that is badly written
-  pub line-bad : (t : Contents) → lineOf line ≡ none → r ≡ refusedBy s badLine number → Lined text start line number s r t t
+  pub line-bad : (t : Memory) → lineOf line ≡ none → r ≡ refusedBy s badLine number → Lined text start line number s r t t
   line-bad t e given = line-refused badLine t given (λ f p done good stored. step-bad f p line e)
 
 -- ---- numbers written into a table
@@ -295,7 +295,7 @@ module _ {A : Type 0} (f : A → List ℕ) (table : List ℕ) (xs : List A) (x :
 
 -- ---- what the tables hold
 
-module _ {text : Bytes} {f : File} {s : State} {t : Contents} (stored : Stored text f s t) where
+module _ {text : Bytes} {f : File} {s : State} {t : Memory} (stored : Stored text f s t) where
   pub nodes-held : HoldsNodes (f .body .nodes) (t .formulas)
   nodes-held = record { records = begins-padded (stored .formulas) }
 

@@ -51,7 +51,7 @@ use Rattle.rows.specs.Judgement.{Narrow, Laid, Drafted, RowNumbered}
 use Rattle.rows.specs.Judging.{principalOf as principalNumber}
 use Rattle.rows.specs.declared.draft.Draft.{Draft}
 use Rattle.rows.proofs.Numbering.{numbered-some, numbered-none}
-use Rattle.lines.specs.State.{refusedBy, passedBy, Contents, SameLengths, Exactly, Stored, Steps, Keeps}
+use Rattle.lines.specs.State.{refusedBy, passedBy, Memory, SameLengths, Exactly, Stored, Steps, Keeps}
 use Rattle.lines.specs.Lined.{OfKind, Lined}
 use Rattle.lines.specs.RowLines.{
   readAs,
@@ -221,12 +221,12 @@ row-drafted {n} {q} {row} {above} {l} {r} h {d} {one} {two} is-one is-two e =
 module _ (text line : Bytes) (start number : ℕ) (s : State) {n : ℕ} {q : Row} {row : RowRead} {above l r : List ℕ}
     (well : lineOf line ≡ some (rowLine n q)) (h : RowLaid n q row above l r) where
   -- number 4
-  order-asked : {f : File} {t : Contents} → Stored text f s t → otherIn (row .number) s ≡ outOfOrder (f .stage) in-rows (length (f .body .rows)) n
+  order-asked : {f : File} {t : Memory} → Stored text f s t → otherIn (row .number) s ≡ outOfOrder (f .stage) in-rows (length (f .body .rows)) n
   order-asked {f} stored =
       ap (λ (z : RowRead). otherIn (z .number) s) (h .read)
       ∙ order-same (f .stage) in-rows (length (f .body .rows)) n (stored .stage) (ap (λ (c : Counts). c .rows) (stored .counts))
 
-  pub row-misplaced : {stepped : Stepped} (t : Contents) → otherIn (row .number) s ≡ true
+  pub row-misplaced : {stepped : Stepped} (t : Memory) → otherIn (row .number) s ≡ true
       → stepped ≡ refusedBy s 4 number → Lined text start line number s stepped t t
   row-misplaced t other given =
       line-refused 4 t given (λ f p done good stored.
@@ -237,13 +237,13 @@ module _ (text line : Bytes) (start number : ℕ) (s : State) {n : ℕ} {q : Row
   module _ (next-one : otherIn (row .number) s ≡ false) {d : Draft} (drafted : Drafted q d l r) {formulas words rows left right : List ℕ} {k : ℕ}
       (numbers : RowNumbered d (s .counts) l r formulas words rows left right k) where
     -- the number that the row earns
-    row-earns : {f : File} (t : Contents) {done : List Bytes} → Good done f → Stored text f s (withRows t formulas words rows left right)
+    row-earns : {f : File} (t : Memory) {done : List Bytes} → Good done f → Stored text f s (withRows t formulas words rows left right)
         → numbered k ≡ first (rowTests f n q)
     row-earns {f} t good stored =
         numbers .given (f .body) q (ground stored good) drafted
         ∙ sym (first-passes (4 when outOfOrder (f .stage) in-rows (length (f .body .rows)) n) (bodyTests (f .body) q) (sym (order-asked stored) ∙ next-one))
 
-    pub row-refused : {stepped : Stepped} (t : Contents) → (k ≡ 0 → ⊥) → stepped ≡ refusedBy s k number
+    pub row-refused : {stepped : Stepped} (t : Memory) → (k ≡ 0 → ⊥) → stepped ≡ refusedBy s k number
         → Lined text start line number s stepped (withRows t formulas words rows left right) (withRows t formulas words rows left right)
     row-refused t some-number given =
         line-refused k (withRows t formulas words rows left right) given (λ f p done good stored.
@@ -252,7 +252,7 @@ module _ (text line : Bytes) (start number : ℕ) (s : State) {n : ℕ} {q : Row
 
     -- a row that passes
     module _ (passed : k ≡ 0) {rows′ left′ right′ : List ℕ} (w : RowStored d (s .counts) l r rows left right rows′ left′ right′)
-        {f : File} (p : Place) (t : Contents) {done : List Bytes} (good : Good done f)
+        {f : File} (p : Place) (t : Memory) {done : List Bytes} (good : Good done f)
         (stored : Stored text f s (withRows t formulas words rows left right)) where
       steps : step f p line ≡ next (withRow f q)
       steps =
@@ -378,7 +378,7 @@ module _ (text line : Bytes) (start number : ℕ) (s : State) {n : ℕ} {q : Row
           }
 
 -- what is written of a row changes no length
-pub row-lengths : {d : Draft} {c : Counts} {l r rows left right rows′ left′ right′ : List ℕ} (t : Contents) (formulas words : List ℕ)
+pub row-lengths : {d : Draft} {c : Counts} {l r rows left right rows′ left′ right′ : List ℕ} (t : Memory) (formulas words : List ℕ)
     → RowStored d c l r rows left right rows′ left′ right′
     → SameLengths (withRows t formulas words rows left right) (withRows t formulas words rows′ left′ right′)
 row-lengths {d} {c} {l} {r} {rows} {left} {right} t formulas words w =
@@ -422,10 +422,10 @@ module _ (row : RowRead) (number : ℕ) (above l r formulas words : List ℕ) (s
           keeps = keeps;
         }
       where
-        keeps : (t : Contents) → Keeps s stepped (withRows t formulas words rows left right) (withRows t formulas words rows′ left′ right′)
+        keeps : (t : Memory) → Keeps s stepped (withRows t formulas words rows left right) (withRows t formulas words rows′ left′ right′)
         keeps t = keeps-passed (ap (λ (z : Stepped). z .number) given) (row-lengths t formulas words w)
 
-        steps-stored : (text line : Bytes) (start n : ℕ) (q : Row) (t : Contents) → lineOf line ≡ some (rowLine n q) → RowLaid n q row above l r
+        steps-stored : (text line : Bytes) (start n : ℕ) (q : Row) (t : Memory) → lineOf line ≡ some (rowLine n q) → RowLaid n q row above l r
             → (f : File) (p : Place) (done : List Bytes) → Good done f → Stored text f s (withRows t formulas words rows left right) → length text ≤ mostBytes
             → p .start ≡ start → p .line ≡ number → Steps text (step f p line) stepped (withRows t formulas words rows′ left′ right′)
         steps-stored text line start n q t well h f p done good stored size placed at =

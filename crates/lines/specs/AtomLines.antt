@@ -12,7 +12,7 @@ use Rattle.format.specs.Tests.{rank, first, atomTests}
 use Rattle.tables.specs.Holding.{Begins}
 use Rattle.tables.specs.Names.{StandsIn}
 use Rattle.rows.specs.Early.{numbered}
-use Rattle.lines.specs.State.{Contents}
+use Rattle.lines.specs.State.{Memory}
 use Rattle.lines.specs.Lined.{Lined}
 use Rattle.lines.specs.declared.state.State.{State}
 use Rattle.lines.specs.declared.state.Stepped.{Stepped}
@@ -26,8 +26,8 @@ pub record AtomNumbered (text : Bytes) (names : List ℕ) (s : State) (n : ℕ) 
       → numbered k ≡ first (atomTests f n name)
 
 -- the contents with another names table
-abbrev pub withNames : Contents → List ℕ → Contents
+abbrev pub withNames : Memory → List ℕ → Memory
 withNames t names = record { names = names; formulas = t .formulas; words = t .words; rows = t .rows; left = t .left; right = t .right }
 
 abbrev pub AtomLined : Bytes → ℕ → Bytes → ℕ → State → Stepped → List ℕ → List ℕ → Type 0
-AtomLined text start line number s r names names′ = (t : Contents) → Lined text start line number s r (withNames t names) (withNames t names′)
+AtomLined text start line number s r names names′ = (t : Memory) → Lined text start line number s r (withNames t names) (withNames t names′)

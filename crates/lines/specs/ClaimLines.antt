@@ -10,7 +10,7 @@ use Rattle.format.specs.Tests.{Test, _when_}
 use Rattle.text.specs.declared.lists.Listed.{Listed}
 use Rattle.rows.specs.Early.{pastOf, badOf}
 use Rattle.rows.specs.Judgement.{Laid}
-use Rattle.lines.specs.State.{outOfTurn, Contents, Keeps}
+use Rattle.lines.specs.State.{outOfTurn, Memory, Keeps}
 use Rattle.lines.specs.Lined.{Lined}
 use Rattle.lines.specs.declared.state.State.{State}
 use Rattle.lines.specs.declared.state.Stepped.{Stepped}
@@ -24,15 +24,15 @@ claimOf left right s =
     ∷ []
 
 -- the contents with these rows and pools
-abbrev pub withTables : Contents → List ℕ → List ℕ → List ℕ → Contents
+abbrev pub withTables : Memory → List ℕ → List ℕ → List ℕ → Memory
 withTables t rows left right = record { names = t .names; formulas = t .formulas; words = t .words; rows = rows; left = left; right = right }
 
 pub record ClaimSettled (antecedent succedent : Listed) (number : ℕ) (l r rows left right : List ℕ) (s : State) (stepped : Stepped) : Type 0 where
   pub lined :
-      (text line : Bytes) (start : ℕ) (xs ys : List ℕ) (t : Contents) → lineOf line ≡ some (claimLine xs ys) → Laid xs antecedent l → Laid ys succedent r
+      (text line : Bytes) (start : ℕ) (xs ys : List ℕ) (t : Memory) → lineOf line ≡ some (claimLine xs ys) → Laid xs antecedent l → Laid ys succedent r
       → Lined text start line number s stepped (withTables t rows left right) (withTables t rows left right)
-  pub keeps : (t : Contents) → Keeps s stepped t t
+  pub keeps : (t : Memory) → Keeps s stepped t t
 
 abbrev pub ClaimLined : Bytes → ℕ → List ℕ → List ℕ → List ℕ → State → Stepped → Type 0
 ClaimLined line number rows left right s stepped =
-    (text : Bytes) (start : ℕ) (t : Contents) → Lined text start line number s stepped (withTables t rows left right) (withTables t rows left right)
+    (text : Bytes) (start : ℕ) (t : Memory) → Lined text start line number s stepped (withTables t rows left right) (withTables t rows left right)

@@ -14,7 +14,7 @@ use Rattle.format.specs.Tests.{Test, _when_, first}
 use Rattle.tables.specs.declared.counts.Counts.{Counts}
 use Rattle.tables.specs.declared.records.NodeRecord.{NodeRecord}
 use Rattle.rows.specs.Early.{numbered}
-use Rattle.lines.specs.State.{notNext, Contents}
+use Rattle.lines.specs.State.{notNext, Memory}
 use Rattle.lines.specs.Lined.{Lined}
 use Rattle.lines.specs.declared.state.State.{State}
 use Rattle.lines.specs.declared.state.Stepped.{Stepped}
@@ -45,9 +45,9 @@ pub record FormulaNumbered (s : State) (n : ℕ) (node : Written) (k : ℕ) : Ty
   pub tests : numbered k ≡ first (formulaOf s n node)
 
 -- the contents with other formulas and words
-abbrev pub withFormulas : Contents → List ℕ → List ℕ → Contents
+abbrev pub withFormulas : Memory → List ℕ → List ℕ → Memory
 withFormulas t formulas words = record { names = t .names; formulas = formulas; words = words; rows = t .rows; left = t .left; right = t .right }
 
 abbrev pub FormulaLined : Bytes → ℕ → State → Stepped → List ℕ → List ℕ → List ℕ → List ℕ → Type 0
 FormulaLined line number s r formulas words formulas′ words′ =
-    (text : Bytes) (start : ℕ) (t : Contents) → Lined text start line number s r (withFormulas t formulas words) (withFormulas t formulas′ words′)
+    (text : Bytes) (start : ℕ) (t : Memory) → Lined text start line number s r (withFormulas t formulas words) (withFormulas t formulas′ words′)

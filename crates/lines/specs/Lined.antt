@@ -9,7 +9,7 @@ use Rattle.format.specs.File.{File}
 use Rattle.format.specs.Tables.{mostBytes}
 use Rattle.format.specs.Judged.{Place, step}
 use Rattle.format.specs.Good.{Good}
-use Rattle.lines.specs.State.{Contents, Stored, Steps, Keeps}
+use Rattle.lines.specs.State.{Memory, Stored, Steps, Keeps}
 use Rattle.lines.specs.declared.state.State.{State}
 use Rattle.lines.specs.declared.state.Stepped.{Stepped}
 
@@ -18,7 +18,7 @@ abbrev pub OfKind : String → Bytes → Type 0
 OfKind kind line = getD (fieldsOf line) 0 [] ≡ bytes kind
 
 -- the line of this number, which starts at this byte of the text
-pub record Lined (text : Bytes) (start : ℕ) (line : Bytes) (number : ℕ) (s : State) (r : Stepped) (t u : Contents) : Type 0 where
+pub record Lined (text : Bytes) (start : ℕ) (line : Bytes) (number : ℕ) (s : State) (r : Stepped) (t u : Memory) : Type 0 where
   pub steps :
       (f : File) (p : Place) (done : List Bytes) → Good done f → Stored text f s t → length text ≤ mostBytes → p .start ≡ start → p .line ≡ number
       → Steps text (step f p line) r u

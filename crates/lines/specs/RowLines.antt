@@ -22,7 +22,7 @@ use Rattle.tables.specs.declared.records.RowRecord.{RowRecord}
 use Rattle.rows.specs.Judgement.{Laid}
 use Rattle.rows.specs.Judging.{principalOf as principalNumber}
 use Rattle.rows.specs.declared.draft.Draft.{Draft}
-use Rattle.lines.specs.State.{notNext, Contents, Keeps}
+use Rattle.lines.specs.State.{notNext, Memory, Keeps}
 use Rattle.lines.specs.Lined.{Lined}
 use Rattle.lines.specs.declared.state.State.{State}
 use Rattle.lines.specs.declared.state.Stepped.{Stepped}
@@ -106,7 +106,7 @@ pub record RowStored (d : Draft) (c : Counts) (antecedent succedent rows left ri
   pub right-written : right′ ≡ written right (c .right) (take (d .right .count) succedent)
 
 -- the contents with other formulas, words, rows and pools
-abbrev pub withRows : Contents → List ℕ → List ℕ → List ℕ → List ℕ → List ℕ → Contents
+abbrev pub withRows : Memory → List ℕ → List ℕ → List ℕ → List ℕ → List ℕ → Memory
 withRows t formulas words rows left right = record { names = t .names; formulas = formulas; words = words; rows = rows; left = left; right = right }
 
 -- a row that is well written, with the tables that its lists were read into
@@ -119,11 +119,11 @@ pub record RowLaid (n : ℕ) (q : Row) (row : RowRead) (above l r : List ℕ) : 
 pub record RowSettled (row : RowRead) (number : ℕ) (above l r formulas words : List ℕ) (s : State) (stepped : Stepped)
     (rows left right rows′ left′ right′ : List ℕ) : Type 0 where
   pub lined :
-      (text line : Bytes) (start n : ℕ) (q : Row) (t : Contents) → lineOf line ≡ some (rowLine n q) → RowLaid n q row above l r
+      (text line : Bytes) (start n : ℕ) (q : Row) (t : Memory) → lineOf line ≡ some (rowLine n q) → RowLaid n q row above l r
       → Lined text start line number s stepped (withRows t formulas words rows left right) (withRows t formulas words rows′ left′ right′)
-  pub keeps : (t : Contents) → Keeps s stepped (withRows t formulas words rows left right) (withRows t formulas words rows′ left′ right′)
+  pub keeps : (t : Memory) → Keeps s stepped (withRows t formulas words rows left right) (withRows t formulas words rows′ left′ right′)
 
 abbrev pub RowLined : Bytes → ℕ → List ℕ → List ℕ → State → Stepped → List ℕ → List ℕ → List ℕ → List ℕ → List ℕ → List ℕ → Type 0
 RowLined line number formulas words s stepped rows left right rows′ left′ right′ =
-    (text : Bytes) (start : ℕ) (t : Contents)
+    (text : Bytes) (start : ℕ) (t : Memory)
     → Lined text start line number s stepped (withRows t formulas words rows left right) (withRows t formulas words rows′ left′ right′)

@@ -43,7 +43,7 @@ claimLine none = 0
 claimLine (some c) = c .line
 
 -- the contents of the lent tables, and of the words in which it is kept what is known of the formulas
-pub record Contents : Type 0 where
+pub record Memory : Type 0 where
   pub names : List ℕ
   pub formulas : List ℕ
   pub words : List ℕ
@@ -51,11 +51,11 @@ pub record Contents : Type 0 where
   pub left : List ℕ
   pub right : List ℕ
 
-abbrev pub tables : List ℕ → List ℕ → List ℕ → List ℕ → List ℕ → List ℕ → Contents
+abbrev pub tables : List ℕ → List ℕ → List ℕ → List ℕ → List ℕ → List ℕ → Memory
 tables names formulas words rows left right = record { names = names; formulas = formulas; words = words; rows = rows; left = left; right = right }
 
 -- the tables are of full length
-pub record Full (t : Contents) : Type 0 where
+pub record Full (t : Memory) : Type 0 where
   pub names : least .names ≤ length (t .names)
   pub formulas : least .formulas ≤ length (t .formulas)
   pub words : 3 * mostFormulas ≤ length (t .words)
@@ -64,7 +64,7 @@ pub record Full (t : Contents) : Type 0 where
   pub right : least .right ≤ length (t .right)
 
 -- no length has changed
-pub record SameLengths (t u : Contents) : Type 0 where
+pub record SameLengths (t u : Memory) : Type 0 where
   pub names : length (u .names) ≡ length (t .names)
   pub formulas : length (u .formulas) ≡ length (t .formulas)
   pub words : length (u .words) ≡ length (t .words)
@@ -77,7 +77,7 @@ abbrev pub Exactly : List ℕ → List ℕ → Type 0
 Exactly held table = table ≡ padded (length table) held
 
 -- the state relation: the tables and the state hold the file, and zeros follow in each table
-pub record Stored (text : Bytes) (f : File) (s : State) (t : Contents) : Type 0 where
+pub record Stored (text : Bytes) (f : File) (s : State) (t : Memory) : Type 0 where
   pub full : Full t
   pub counts : s .counts ≡ countsOf (f .body)
   pub stage : s .stage ≡ rank (f .stage)
@@ -91,11 +91,11 @@ pub record Stored (text : Bytes) (f : File) (s : State) (t : Contents) : Type 0 
   pub right : Exactly (rightPool (f .body .rows)) (t .right)
 
 -- what one line does: the file with the line is stored, or its number and line are given
-abbrev pub Steps : Bytes → Outcome File → Stepped → Contents → Type 0
+abbrev pub Steps : Bytes → Outcome File → Stepped → Memory → Type 0
 Steps text (next f) r t = (r .number ≡ 0) × Stored text f (r .state) t
 Steps text (refused n l) r t = (r .number ≡ n) × (r .line ≡ l)
 
 -- what holds of a line in any tables: one that is refused leaves tables and state as they were, and no length changes
-pub record Keeps (s : State) (r : Stepped) (t u : Contents) : Type 0 where
+pub record Keeps (s : State) (r : Stepped) (t u : Memory) : Type 0 where
   pub kept : (r .number ≡ 0 → ⊥) → (u ≡ t) × (r .state ≡ s)
   pub lengths : SameLengths t u

@@ -5,14 +5,14 @@ use lib.ListN.{length}
 use Rattle.format.specs.Text.{Bytes}
 use Rattle.text.specs.Parts.{between}
 use Rattle.text.specs.Refusals.{badLine}
-use Rattle.lines.specs.State.{refusedBy, Contents}
+use Rattle.lines.specs.State.{refusedBy, Memory}
 use Rattle.lines.specs.Lined.{Lined}
 use Rattle.lines.specs.declared.state.State.{State}
 use Rattle.lines.specs.declared.state.Stepped.{Stepped}
 
 -- A part of the text is judged as a line, by every accepted beginning that the tables hold; a place outside the text is a bad line.
--- Where the tables hold no accepted beginning, it is free whether the line passes and what it is refused for; what `Keeps` says
--- holds all the same.
-pub record LineStepped (text : Bytes) (start end number : ℕ) (s : State) (r : Stepped) (t u : Contents) : Type 0 where
+-- Where the tables hold no accepted beginning, or the text is longer than 65,536 bytes, it is free whether the line passes and
+-- what it is refused for; what `Keeps` says holds all the same.
+pub record LineStepped (text : Bytes) (start end number : ℕ) (s : State) (r : Stepped) (t u : Memory) : Type 0 where
   pub inside : start ≤ end → end ≤ length text → Lined text start (between text start end) number s r t u
   pub outside : ((start ≤ end) × (end ≤ length text) → ⊥) → (r ≡ refusedBy s badLine number) × (u ≡ t)

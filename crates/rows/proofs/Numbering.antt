@@ -15,7 +15,7 @@ use Rattle.format.proofs.RowPasses.{row-passes-exactly}
 use Rattle.tables.specs.declared.counts.Counts.{Counts}
 use Rattle.rows.specs.Early.{earlyOf, numbered}
 use Rattle.rows.specs.Judgement.{Drafted, Ground, earlyTests, RowNumbered}
-use Rattle.rows.specs.Judging.{Judging, numberOf}
+use Rattle.rows.specs.Judging.{Judging, refusalOf}
 use Rattle.rows.specs.declared.Verdict.{Verdict}
 use Rattle.rows.specs.declared.draft.Draft.{Draft}
 use Rattle.rows.proofs.EarlyTests.{early-same, ready}
@@ -66,7 +66,7 @@ verdictNumber Verdict.Passes = 0
 verdictNumber Verdict.WrongPremises = 10
 verdictNumber Verdict.WrongStep = 11
 
-verdict-numbered : (v : Verdict) → numbered (verdictNumber v) ≡ numberOf v
+verdict-numbered : (v : Verdict) → numbered (verdictNumber v) ≡ refusalOf v
 verdict-numbered Verdict.Passes = refl
 verdict-numbered Verdict.WrongPremises = refl
 verdict-numbered Verdict.WrongStep = refl
@@ -120,7 +120,7 @@ module _ (d : Draft) (c : Counts) (left right formulas words rows leftPool right
   -- none does, and the rule decides
   pub late-numbered : early ≡ 0 → (v : Verdict)
       → ((b : Body) (r : Row) → Judging b r formulas words rows leftPool rightPool d (take (d .left .count) left) (take (d .right .count) right)
-      → numberOf v ≡ first (ruleTests b r))
+      → refusalOf v ≡ first (ruleTests b r))
       → RowNumbered d c left right formulas words rows leftPool rightPool (verdictNumber v)
   late-numbered h v judged =
       record {
@@ -142,7 +142,7 @@ module _ (d : Draft) (c : Counts) (left right formulas words rows leftPool right
 
   -- the same, with the sides named as they were taken
   pub late-fronted : early ≡ 0 → {x y : List ℕ} → x ≡ take (d .left .count) left → y ≡ take (d .right .count) right → (v : Verdict) {w : Verdict} → v ≡ w
-      → ((b : Body) (r : Row) → Judging b r formulas words rows leftPool rightPool d x y → numberOf v ≡ first (ruleTests b r))
+      → ((b : Body) (r : Row) → Judging b r formulas words rows leftPool rightPool d x y → refusalOf v ≡ first (ruleTests b r))
       → RowNumbered d c left right formulas words rows leftPool rightPool (verdictNumber w)
   late-fronted h {x} {y} e f v told judged =
       subst (λ (u : Verdict). RowNumbered d c left right formulas words rows leftPool rightPool (verdictNumber u)) told (

@@ -55,7 +55,7 @@ earlyTests b r = roomTests b r ++ referenceTests b r ++ sideTests (r .left) (r .
 
 -- The number of a row. For every good body that the tables begin with it is the first that applies, and the row passes exactly
 -- when it passes the tests before its rule and is an instance. In any tables 5, 7 and 9 are given by the draft and the counts;
--- where the tables hold no body, which of 0, 10 and 11 comes after these is free.
+-- where the tables hold no good body, or the draft is not a row's, which of 0, 10 and 11 comes after these is free.
 pub record RowNumbered (d : Draft) (c : Counts) (left right formulas words rows leftPool rightPool : List ℕ) (number : ℕ) : Type 0 where
   pub given :
       (b : Body) (r : Row) → Ground b c formulas words rows leftPool rightPool → Drafted r d left right

@@ -54,7 +54,7 @@ Premised unstable = Unit {0}
 Premised initial = ⊥
 
 -- 01's number of each answer, none where the row passes
-abbrev pub numberOf : Verdict → Option ℕ
-numberOf Verdict.Passes = none
-numberOf Verdict.WrongPremises = some 10
-numberOf Verdict.WrongStep = some 11
+abbrev pub refusalOf : Verdict → Option ℕ
+refusalOf Verdict.Passes = none
+refusalOf Verdict.WrongPremises = some 10
+refusalOf Verdict.WrongStep = some 11

@@ -9,7 +9,7 @@ ghost use mathlib.Core.Path.{_≡_};
 ghost use Rattle.format.specs.File.{Row, Body};
 ghost use Rattle.format.specs.Tests.{first, ruleTests};
 ghost use Rattle.rows.specs.Judgement.{RowNumbered};
-ghost use Rattle.rows.specs.Judging.{Judging, numberOf};
+ghost use Rattle.rows.specs.Judging.{Judging, refusalOf};
 use draft::Draft;
 use early::early_number;
 use premises::wrong_premises;
@@ -37,7 +37,7 @@ fn judge_row<'a>(
     ensures { λ v. ⌜ ((b : Body) (q : Row)
         → Judging b q (now (formulas .entry)) (now (words .entry)) (now (rows .entry)) (now (left .entry)) (now (right .entry)) draft
         (now (antecedent .entry)) (now (succedent .entry))
-        → numberOf v ≡ first (ruleTests b q)) ⌝ }
+        → refusalOf v ≡ first (ruleTests b q)) ⌝ }
 {
     if wrong_premises(rows, draft) {
         return Verdict::WrongPremises;

@@ -25,7 +25,7 @@ use Rattle.sides.specs.Deciding.{DecidesIf}
 use Rattle.sides.specs.Members.{AllRise}
 use Rattle.sides.proofs.Deciding.{no-if, denied-if, iff-if}
 use Rattle.schema.specs.Additions.{sideIn, sidesIn}
-use Rattle.schema.specs.SchemaRows.{Sides, Handed, SidesRise, partsHanded, SchemaSides, sequentWith, premisesOf, OfBody, InstanceHanded, SchemaAnswer}
+use Rattle.schema.specs.SchemaRows.{Sides, Handed, SidesRise, partsHanded, SchemaSides, sequentWith, premisesHanded, OfBody, InstanceHanded, SchemaAnswer}
 use Rattle.schema.specs.declared.parts.Parts.{Parts}
 use Rattle.schema.proofs.Apart.{PartsOf, parts-read, parts-whole}
 use Rattle.schema.proofs.Standing.{partsAt, two-parts, KnownParts, meantBy, added-stands}
@@ -122,7 +122,7 @@ module _ {b : Body} {s : Rule} {t : Schema} {formulas : List ℕ} {h : Handed} (
     at-place place = ap (λ (e : Entry). getD (addedSides e) place []) (o .rule)
 
     abbrev rows : List Sequent
-    rows = sequentWith (b .nodes) (t .kind) (h .row) ∷ map (sequentWith (b .nodes) (t .kind)) (premisesOf h)
+    rows = sequentWith (b .nodes) (t .kind) (h .row) ∷ map (sequentWith (b .nodes) (t .kind)) (premisesHanded h)
 
     abbrev additions : List Added
     additions = t .conclusion ∷ t .premises
@@ -152,11 +152,11 @@ module _ {b : Body} {s : Rule} {t : Schema} {formulas : List ℕ} {h : Handed} (
         (λ l. side-at 5 (omega arith) (h .two .right) (o .two l .right) (at-place 5))))
 
     abbrev test-of : Type 0
-    test-of = SchemaTest t m (map (sequentWith (b .nodes) (t .kind)) (premisesOf h)) (sequentWith (b .nodes) (t .kind) (h .row))
+    test-of = SchemaTest t m (map (sequentWith (b .nodes) (t .kind)) (premisesHanded h)) (sequentWith (b .nodes) (t .kind) (h .row))
 
     abbrev instance-at : ℕ → Type 0
     instance-at i =
-        SchemaInstance t (decodedAt (b .nodes) i) (map (sequentWith (b .nodes) (t .kind)) (premisesOf h)) (sequentWith (b .nodes) (t .kind) (h .row))
+        SchemaInstance t (decodedAt (b .nodes) i) (map (sequentWith (b .nodes) (t .kind)) (premisesHanded h)) (sequentWith (b .nodes) (t .kind) (h .row))
 
     fits-at : ℕ → Type 0
     fits-at i = Fits (t .form) (decodedAt (b .nodes) i) (decodedAt (b .nodes) (parts .first)) (decodedAt (b .nodes) (parts .second))

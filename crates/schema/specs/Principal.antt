@@ -5,12 +5,12 @@ use mathlib.Core.Bool.{true, false, cond}
 use mathlib.Core.List.{List}
 use lib.Dec.{eqb, ltb}
 use Rattle.tables.specs.declared.records.NodeRecord.{NodeRecord}
-use Rattle.tables.specs.Records.{nodeAt, nodeOf}
+use Rattle.tables.specs.Records.{nodeAt, recordFrom}
 use Rattle.schema.specs.declared.parts.Parts.{Parts}
 
 -- the record of formula i
 abbrev pub recordAt : List ℕ → ℕ → NodeRecord
-recordAt formulas i = nodeOf (nodeAt formulas i)
+recordAt formulas i = recordFrom (nodeAt formulas i)
 
 -- a formula of the form, with its parts
 abbrev pub fitting : ℕ → ℕ → ℕ → Parts

@@ -40,8 +40,8 @@ pub record Handed : Type 0 where
 
 module _ (h : Handed) where
   -- the sides of the premises that there are
-  abbrev pub premisesOf : List Sides
-  premisesOf = take (h .count) (h .one ∷ h .two ∷ [])
+  abbrev pub premisesHanded : List Sides
+  premisesHanded = take (h .count) (h .one ∷ h .two ∷ [])
 
   -- the sides that there are rise strictly
   pub record SidesRise : Type 0 where
@@ -83,7 +83,7 @@ pub record OfBody (b : Body) (s : Rule) (t : Schema) (formulas : List ℕ) (h : 
 -- the row is an instance of the rule with its premises
 abbrev pub InstanceHanded : Body → Schema → Handed → Type 0
 InstanceHanded b t h =
-    SchemaInstance t (decodedAt (b .nodes) (h .principal)) (map (sequentWith (b .nodes) (t .kind)) (premisesOf h)) (sequentWith (b .nodes) (t .kind) (h .row))
+    SchemaInstance t (decodedAt (b .nodes) (h .principal)) (map (sequentWith (b .nodes) (t .kind)) (premisesHanded h)) (sequentWith (b .nodes) (t .kind) (h .row))
 
 -- Where the table holds a body, whether the row is an instance. Where it holds none, by the records that stand there. Where a side
 -- does not rise strictly the answer is free, but it is true only where the sides fit, or the row is an instance.

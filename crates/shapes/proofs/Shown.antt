@@ -16,7 +16,7 @@ use Rattle.format.proofs.GoodBodies.{good-held}
 use Rattle.format.proofs.Formulas.{known-earlier}
 use Rattle.format.proofs.Decoded.{in-decoded}
 use Rattle.tables.specs.declared.records.NodeRecord.{NodeRecord}
-use Rattle.tables.specs.Records.{nodeAt, nodeOf}
+use Rattle.tables.specs.Records.{nodeAt, recordFrom}
 use Rattle.tables.specs.Holding.{Formulas}
 use Rattle.shapes.specs.Shapes.{doubledBy, doubledIn, negatedBy, negatedIn, shapeBy, shapeIn}
 use Rattle.shapes.specs.declared.Shape.{Shape}
@@ -74,9 +74,9 @@ module _ (formulas : List ℕ) (n : NodeRecord) where
   shape-other e f g h i = simp (ne-eqb _ _ e, ne-eqb _ _ f, ne-eqb _ _ g, ne-eqb _ _ h, ne-eqb _ _ i)
 
 -- the record of x, by whatever number it was read
-module _ (formulas : List ℕ) {n : NodeRecord} {i x : ℕ} (e : n ≡ nodeOf (nodeAt formulas i)) (k : i ≡ x) where
-  its-record : n ≡ nodeOf (nodeAt formulas x)
-  its-record = e ∙ ap (λ (i : ℕ). nodeOf (nodeAt formulas i)) k
+module _ (formulas : List ℕ) {n : NodeRecord} {i x : ℕ} (e : n ≡ recordFrom (nodeAt formulas i)) (k : i ≡ x) where
+  its-record : n ≡ recordFrom (nodeAt formulas x)
+  its-record = e ∙ ap (λ (i : ℕ). recordFrom (nodeAt formulas i)) k
 
   pub doubled-read : doubledBy n ≡ doubledIn formulas x
   unfolding doubledIn
@@ -151,7 +151,7 @@ module _ {b : Body} {table : List ℕ} (g : Formulas b table) where
   below-64 p h = omega (arith, good-held (g .good) .few-atoms)
 
   number-of : (i : ℕ) → NodeRecord
-  number-of i = nodeOf (nodeAt table i)
+  number-of i = recordFrom (nodeAt table i)
 
   doubled-shows : (i : ℕ) → i < length (b .nodes) → Shows b (neg (neg (decodedAt (b .nodes) i))) (doubledIn table i)
   unfolding doubledIn number-of

@@ -32,7 +32,7 @@ use Rattle.format.proofs.GoodBodies.{good-held}
 use Rattle.format.proofs.Formulas.{formulas-snoc, length-formulas, formulas-prefix, known-earlier}
 use Rattle.atomset.specs.AtomSet.{has, Member}
 use Rattle.tables.specs.declared.records.NodeRecord.{NodeRecord}
-use Rattle.tables.specs.Records.{nodeOf, nodeNumbers}
+use Rattle.tables.specs.Records.{recordFrom, nodeNumbers}
 use Rattle.tables.specs.Index.{entered, Indexed}
 use Rattle.tables.specs.Known.{AtomWords, Known, occursBy}
 use Rattle.tables.specs.Entering.{Appended}
@@ -44,7 +44,7 @@ either-true false b = (λ e. inr e, λ e. ⊎-elim (λ f. absurd (true≢false (
 
 module _ (b : Body) (good : GoodBody b) (words : List ℕ) (known : AtomWords b words) (m : Node) (earlier : refersAhead b m ≡ false) where
   -- the atoms by the record are those of the formula
-  node-occurs : (p : ℕ) → (occursBy words (nodeOf (nodeRecord m)) p ≡ true) ↔ (p ∈ atomsOf (formulaOf (formulas (b .nodes)) m))
+  node-occurs : (p : ℕ) → (occursBy words (recordFrom (nodeRecord m)) p ≡ true) ↔ (p ∈ atomsOf (formulaOf (formulas (b .nodes)) m))
   unfolding occursBy
   node-occurs p = cases m earlier
     where
@@ -63,7 +63,7 @@ module _ (b : Body) (good : GoodBody b) (words : List ℕ) (known : AtomWords b 
             λ t. or .1 (⊎-elim (λ x. inl (of-i .1 x)) (λ x. inr (of-j .1 x)) (List·Memᴰ·append-cases A t)),
           )
 
-      cases : (n : Node) → refersAhead b n ≡ false → (occursBy words (nodeOf (nodeRecord n)) p ≡ true) ↔ (p ∈ atomsOf (formulaOf (formulas (b .nodes)) n))
+      cases : (n : Node) → refersAhead b n ≡ false → (occursBy words (recordFrom (nodeRecord n)) p ≡ true) ↔ (p ∈ atomsOf (formulaOf (formulas (b .nodes)) n))
       cases Node.bot e = (λ x. absurd (true≢false (sym x)), λ x. absurd (List·Memᴰ·not-nil x))
       cases (Node.atom i) e =
           let below : i < 64 = omega (arith, leb-false (b .atoms) i e, good-held good .few-atoms) in (
@@ -76,7 +76,7 @@ module _ (b : Body) (good : GoodBody b) (words : List ℕ) (known : AtomWords b 
       cases (Node.imp i j) e = both i j e
 
   -- the words with one more
-  words-more : length (b .nodes) < length words → (w : ℕ) → ((p : ℕ) → has w p ≡ occursBy words (nodeOf (nodeRecord m)) p)
+  words-more : length (b .nodes) < length words → (w : ℕ) → ((p : ℕ) → has w p ≡ occursBy words (recordFrom (nodeRecord m)) p)
       → AtomWords (addNode b m) (set words (length (b .nodes)) w)
   words-more room w are i h p = at-end (decLt i (length (b .nodes)))
     where
@@ -99,8 +99,8 @@ module _ (b : Body) (good : GoodBody b) (words : List ℕ) (known : AtomWords b 
           own
 
 -- the record of a node, whatever numbers say it
-pub key-of : (key : NodeRecord) (m : Node) → nodeNumbers key ≡ nodeRecord m → key ≡ nodeOf (nodeRecord m)
-key-of key m e = ap nodeOf e
+pub key-of : (key : NodeRecord) (m : Node) → nodeNumbers key ≡ nodeRecord m → key ≡ recordFrom (nodeRecord m)
+key-of key m e = ap recordFrom e
 
 module _ {b : Body} {formulas words formulas′ words′ : List ℕ} {count : ℕ} {key : NodeRecord} (good : GoodBody b) (known : Known b words) (m : Node)
     (is-record : nodeNumbers key ≡ nodeRecord m) (more : Appended formulas words count key formulas′ words′) where
@@ -119,7 +119,7 @@ module _ {b : Body} {formulas words formulas′ words′ : List ℕ} {count : �
             (omega arith) (omega (arith, length-set words (length (b .nodes)) (more .atoms))));
       }
     where
-      are : (p : ℕ) → has (more .atoms) p ≡ occursBy words (nodeOf (nodeRecord m)) p
+      are : (p : ℕ) → has (more .atoms) p ≡ occursBy words (recordFrom (nodeRecord m)) p
       are p = more .atoms-are p ∙ ap (λ (k : NodeRecord). occursBy words k p) (key-of key m is-record)
 
       noted : words′ ≡ entered (set words (length (b .nodes)) (more .atoms)) (length (b .nodes)) (nodeRecord m)

@@ -15,7 +15,7 @@ use Rattle.format.specs.Tests.{refersAhead, unknownFormula}
 use Rattle.format.proofs.GoodBodies.{good-held, beforeNode, nodeAt as heldNode}
 use Rattle.format.proofs.Formulas.{known-earlier, decoded-node}
 use Rattle.tables.specs.declared.records.NodeRecord.{NodeRecord}
-use Rattle.tables.specs.Records.{nodeAt, nodeOf}
+use Rattle.tables.specs.Records.{nodeAt, recordFrom}
 use Rattle.tables.specs.Holding.{Formulas}
 use Rattle.tables.proofs.Encoded.{node-held}
 
@@ -35,7 +35,7 @@ module _ (b : Body) (i : ℕ) where
   earlier-known : (is : List ℕ) → unknownFormula (beforeNode b i) is ≡ false → (j : ℕ) → j ∈ is → j < length (b .nodes)
   earlier-known is e j m = omega (arith, known-earlier (beforeNode b i) is e j m, length-take i (b .nodes))
 
-  node-told : (n : Node) → refersAhead (beforeNode b i) n ≡ false → Told b (nodeOf (nodeRecord n)) (formulaOf (formulas (b .nodes)) n)
+  node-told : (n : Node) → refersAhead (beforeNode b i) n ≡ false → Told b (recordFrom (nodeRecord n)) (formulaOf (formulas (b .nodes)) n)
   node-told Node.bot e = told-bot refl refl
   node-told (Node.atom k) e = told-atom refl (leb-false (b .atoms) k e) refl
   node-told (Node.not j) e = told-not refl (earlier-known (j ∷ []) e j (List·Memᴰ·head refl)) refl
@@ -47,17 +47,17 @@ module _ (b : Body) (i : ℕ) where
       told-imp refl (earlier-known (j ∷ k ∷ []) e j (List·Memᴰ·head refl)) (earlier-known (j ∷ k ∷ []) e k (List·Memᴰ·tail (List·Memᴰ·head refl))) refl
 
 -- record i of the formulas table tells formula i
-pub told : {b : Body} {table : List ℕ} → Formulas b table → (i : ℕ) → i < length (b .nodes) → Told b (nodeOf (nodeAt table i)) (decodedAt (b .nodes) i)
+pub told : {b : Body} {table : List ℕ} → Formulas b table → (i : ℕ) → i < length (b .nodes) → Told b (recordFrom (nodeAt table i)) (decodedAt (b .nodes) i)
 told {b} {table} g i h =
-    subst (λ (r : List ℕ). Told b (nodeOf r) (decodedAt (b .nodes) i)) (sym (node-held (g .table) i Node.bot h))
-    (subst (λ (F : Formula). Told b (nodeOf (nodeRecord (heldNode b i))) F)
+    subst (λ (r : List ℕ). Told b (recordFrom r) (decodedAt (b .nodes) i)) (sym (node-held (g .table) i Node.bot h))
+    (subst (λ (F : Formula). Told b (recordFrom (nodeRecord (heldNode b i))) F)
     (sym (decoded-node (good-held (g .good)) i h)) (node-told b i (heldNode b i) (good-held (g .good) .earlier i h)))
 
 -- the same of a record that was read
 pub told-of : {b : Body} {table : List ℕ} {n : NodeRecord} {i j : ℕ}
-    → Formulas b table → n ≡ nodeOf (nodeAt table i) → i ≡ j → j < length (b .nodes) → Told b n (decodedAt (b .nodes) j)
+    → Formulas b table → n ≡ recordFrom (nodeAt table i) → i ≡ j → j < length (b .nodes) → Told b n (decodedAt (b .nodes) j)
 told-of {b} {table} {n} {i} {j} g e k h =
-    subst (λ (m : NodeRecord). Told b m (decodedAt (b .nodes) j)) (sym (e ∙ ap (λ (x : ℕ). nodeOf (nodeAt table x)) k)) (told g j h)
+    subst (λ (m : NodeRecord). Told b m (decodedAt (b .nodes) j)) (sym (e ∙ ap (λ (x : ℕ). recordFrom (nodeAt table x)) k)) (told g j h)
 
 -- what a word says of the formula
 abbrev pub ByWord : Body → NodeRecord → Formula → ℕ → Type 0

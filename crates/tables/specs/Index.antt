@@ -8,7 +8,7 @@ use lib.ListN.{length, getD, set}
 use Rattle.format.specs.Text.{any, sameList}
 use Rattle.format.specs.File.{Node}
 use Rattle.format.specs.Tables.{nodeRecord}
-use Rattle.tables.specs.Records.{nodeAt, nodeOf, nodeNumbers}
+use Rattle.tables.specs.Records.{nodeAt, recordFrom, nodeNumbers}
 use Rattle.tables.specs.Holding.{HoldsNodes}
 use Rattle.tables.specs.declared.found.Found.{Found}
 
@@ -47,7 +47,7 @@ entered words i numbers =
 -- What is found by the index, in any tables: a formula that has the record. Where the table holds formulas with their index, it
 -- is one of them, and nothing is found only where none has the record; elsewhere it is free whether one is found.
 pub record NodeFound (formulas words numbers : List ℕ) (r : Found) : Type 0 where
-  pub there : (i : ℕ) → r ≡ Found.At i → nodeNumbers (nodeOf (nodeAt formulas i)) ≡ numbers
+  pub there : (i : ℕ) → r ≡ Found.At i → nodeNumbers (recordFrom (nodeAt formulas i)) ≡ numbers
   pub within : (nodes : List Node) → HoldsNodes nodes formulas → Indexed nodes words → (i : ℕ) → r ≡ Found.At i → i < length nodes
   pub missing :
       (nodes : List Node) → HoldsNodes nodes formulas → Indexed nodes words → r ≡ Found.Nowhere

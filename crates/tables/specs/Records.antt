@@ -30,8 +30,8 @@ nodeAt formulas i = part formulas (nodeWidth * i) nodeWidth
 abbrev pub nodeNumbers : NodeRecord → List ℕ
 nodeNumbers n = n .word ∷ n .first ∷ n .second ∷ []
 
-abbrev pub nodeOf : List ℕ → NodeRecord
-nodeOf numbers = record { word = getD numbers 0 absent; first = getD numbers 1 absent; second = getD numbers 2 absent }
+abbrev pub recordFrom : List ℕ → NodeRecord
+recordFrom numbers = record { word = getD numbers 0 absent; first = getD numbers 1 absent; second = getD numbers 2 absent }
 
 abbrev pub rowNumbers : RowRecord → List ℕ
 rowNumbers r = r .rule ∷ r .principal ∷ r .first ∷ r .second ∷ r .«left_start» ∷ r .«left_length» ∷ r .«right_start» ∷ r .«right_length» ∷ []

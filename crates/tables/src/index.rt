@@ -5,7 +5,7 @@ ghost use mathlib.Core.Path.{_≡_};
 ghost use Prim.Native.Nat.{_+_, _≤_, _<_};
 ghost use lib.ListN.{getD, set};
 ghost use Rattle.format.specs.Text.{sameList};
-ghost use Rattle.tables.specs.Records.{nodeAt, nodeOf, nodeNumbers};
+ghost use Rattle.tables.specs.Records.{nodeAt, recordFrom, nodeNumbers};
 ghost use Rattle.tables.specs.Index.{formulaWords, slotOf, entered, NodeFound};
 use crate::found::Found;
 use crate::records::NodeRecord;
@@ -45,7 +45,7 @@ pub(crate) fn put_word(words: &mut [u64], at: usize, word: u64)
 
 // Whether formula i has this key.
 fn has_record(formulas: &[u16], i: usize, key: NodeRecord) -> bool
-    ensures { λ r. ⌜ r ≡ sameList (nodeNumbers (nodeOf (nodeAt (now (formulas .entry)) i))) (nodeNumbers key) ⌝ }
+    ensures { λ r. ⌜ r ≡ sameList (nodeNumbers (recordFrom (nodeAt (now (formulas .entry)) i))) (nodeNumbers key) ⌝ }
 {
     let found = node(formulas, i);
     if found.word != key.word {

@@ -8,7 +8,7 @@ ghost use lib.ListN.{take};
 ghost use Rattle.format.specs.Tables.{rowWidth, rowAt};
 ghost use Rattle.format.specs.Tables.{part as partOf};
 ghost use Rattle.format.specs.Tables.{nameWidth, nodeWidth};
-ghost use Rattle.tables.specs.Records.{written, nodeNumbers, rowNumbers, nodeAt, nodeOf, rowOf};
+ghost use Rattle.tables.specs.Records.{written, nodeNumbers, rowNumbers, nodeAt, recordFrom, rowOf};
 use crate::limits::NAME_WIDTH;
 use crate::limits::NODE_WIDTH;
 use crate::limits::ROW_WIDTH;
@@ -67,7 +67,7 @@ pub fn front(table: &[u16], count: usize) -> &[u16]
 
 // Record i of the formulas table.
 pub fn node(formulas: &[u16], i: usize) -> NodeRecord
-    ensures { λ r. ⌜ r ≡ nodeOf (nodeAt (now (formulas .entry)) i) ⌝ }
+    ensures { λ r. ⌜ r ≡ recordFrom (nodeAt (now (formulas .entry)) i) ⌝ }
 {
     if i >= formulas.len() / NODE_WIDTH {
         return NodeRecord {
@@ -126,7 +126,7 @@ pub fn put_name(names: &mut [u16], count: usize, start: u16, len: u16)
 }
 
 // Writes the record of a formula.
-pub fn put_node(formulas: &mut [u16], count: usize, node: NodeRecord)
+pub(crate) fn put_node(formulas: &mut [u16], count: usize, node: NodeRecord)
     ensures { λ _. ⌜ now (formulas .exit) ≡ written (now (formulas .entry)) (nodeWidth * count) (nodeNumbers node) ⌝ }
 {
     if count >= formulas.len() / NODE_WIDTH {

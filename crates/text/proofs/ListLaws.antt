@@ -14,7 +14,7 @@ use Rattle.format.specs.Text.{comma, partsAt, each, is, listOf, numberOf, stric
 use Rattle.text.specs.Refusals.{badIfNone}
 use Rattle.text.specs.Parts.{before, nextAt, between}
 use Rattle.text.specs.Numbers.{numberAs, digits, entryAs, numberAt}
-use Rattle.text.specs.Lists.{largest, laidOver, listedAs, ListedInto, entryAt, Holds, listRefusal, leads, numbersAhead, entriesOf}
+use Rattle.text.specs.Lists.{largest, laidOver, listedAs, ListedInto, entryAt, HeldList, listRefusal, leads, numbersAhead, entriesOf}
 use Rattle.text.specs.declared.numbers.Entry.{Entry}
 use Rattle.text.specs.declared.lists.Listed.{Listed}
 use Rattle.text.proofs.PartLaws.{next-inside, next-found, next-least, next-bounds, next-part, last-part, first-part}
@@ -137,8 +137,8 @@ laid-length [] was = refl
 laid-length (x ∷ xs) [] = refl
 laid-length (x ∷ xs) (o ∷ was) = ap suc (laid-length xs was)
 
-pub one-more : (xs : List ℕ) (n : ℕ) (was is is′ : List ℕ) (listed r : Listed) → Holds xs was is listed
-    → is′ ≡ set is (listed .count) (min n 65535) → (listed ≡ listedAs (some xs) → r ≡ listedAs (some (xs ++ n ∷ []))) → Holds (xs ++ n ∷ []) was is′ r
+pub one-more : (xs : List ℕ) (n : ℕ) (was is is′ : List ℕ) (listed r : Listed) → HeldList xs was is listed
+    → is′ ≡ set is (listed .count) (min n 65535) → (listed ≡ listedAs (some xs) → r ≡ listedAs (some (xs ++ n ∷ []))) → HeldList (xs ++ n ∷ []) was is′ r
 one-more xs n was is is′ listed r h stored known =
     record {
       answer = known (h .answer);
@@ -164,7 +164,7 @@ then-one xs n (some ys) = ap some (sym (append-assoc xs (n ∷ []) ys))
 -- the entries before `at` are read
 pub record Listing (field was out : List ℕ) (listed : Listed) (at : ℕ) : Type 0 where
   pub entries : List ℕ
-  pub holds : Holds entries was out listed
+  pub holds : HeldList entries was out listed
   pub few : length entries ≤ at
   pub within : at ≤ length field
   pub whole : listOf field ≡ entries then each numberOf (partsAt comma (drop at field))
@@ -254,7 +254,7 @@ module _ (field was out : List ℕ) (listed : Listed) (at : ℕ) (l : Listing fi
     begun-one : entriesOf field ≡ (l .entries ++ n ∷ []) ++ numbersAhead (drop 1 (partsAt comma (drop at field)))
     begun-one = begun-by (some n) (value-read .0) ∙ sym (append-assoc (l .entries) (n ∷ []) (numbersAhead (drop 1 (partsAt comma (drop at field)))))
 
-    module _ (out′ : List ℕ) (listed′ : Listed) (h : Holds (l .entries ++ n ∷ []) was out′ listed′) where
+    module _ (out′ : List ℕ) (listed′ : Listed) (h : HeldList (l .entries ++ n ∷ []) was out′ listed′) where
       pub listing-more : (end ≡ length field → ⊥) → Listing field was out′ listed′ (end + 1)
       unfolding later
       listing-more not-last =

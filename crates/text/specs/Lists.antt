@@ -62,6 +62,6 @@ unfoldable pub entryAt : Bytes → ℕ → Entry
 entryAt field start = entryAs (numberAs (numberOf (between field start (nextAt comma field start)))) (nextAt comma field start)
 
 -- an answer and a table that hold these entries, where the table held others before
-pub record Holds (xs was is : List ℕ) (r : Listed) : Type 0 where
+pub record HeldList (xs was is : List ℕ) (r : Listed) : Type 0 where
   pub answer : r ≡ listedAs (some xs)
   pub stored : is ≡ laidOver xs was

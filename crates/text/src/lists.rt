@@ -4,7 +4,7 @@ ghost use mathlib.Core.List.{List, [], _∷_, _++_};
 ghost use mathlib.Core.Option.{some};
 ghost use Prim.Native.Nat.{ℕ, _^_, _≤_, _<_, min};
 ghost use lib.ListN.{length, set};
-ghost use Rattle.text.specs.Lists.{listedAs, ListedInto, entryAt, Holds};
+ghost use Rattle.text.specs.Lists.{listedAs, ListedInto, entryAt, HeldList};
 use crate::numbers::Entry;
 use crate::numbers::number_at;
 use crate::parts::is_dash;
@@ -87,7 +87,7 @@ fn store(out: &mut [u16], at: usize, n: u32)
 // One more entry, with its number stored.
 fn enter(listed: Listed, n: u32, out: &mut [u16]) -> Listed
     requires { ⌜ listed .count < 2 ^ 63 ⌝ }
-    ensures { λ r. ⌜ ((xs was : List ℕ) → Holds xs was (now (out .entry)) listed → Holds (xs ++ n ∷ []) was (now (out .exit)) r) ⌝ }
+    ensures { λ r. ⌜ ((xs was : List ℕ) → HeldList xs was (now (out .entry)) listed → HeldList (xs ++ n ∷ []) was (now (out .exit)) r) ⌝ }
 {
     store(out, listed.count, n);
     entered(listed, n)

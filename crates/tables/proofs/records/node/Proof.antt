@@ -6,13 +6,13 @@ use lib.Dec.{lit<}
 use lib.ListN.{length}
 use Rattle.format.specs.Tables.{absent}
 use Rattle.format.specs.Tables.{nodeWidth}
-use Rattle.tables.specs.Records.{nodeOf}
+use Rattle.tables.specs.Records.{recordFrom}
 use Rattle.tables.proofs.Placed.{part-outside, part-first, part-at}
 use Rattle.tables.proofs.records.node.Statement.{statement}
 use Rattle.tables.proofs.records.node.Tie as tie
 
 returns : tie.Need-returns
-returns c = ap nodeOf (sym (part-outside (c .before .args .formulas .now) _ nodeWidth (omega arith)))
+returns c = ap recordFrom (sym (part-outside (c .before .args .formulas .now) _ nodeWidth (omega arith)))
 
 mul-at : tie.Need-mul-at
 mul-at c = omega arith
