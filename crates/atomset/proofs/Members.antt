@@ -15,7 +15,8 @@ use lib.Count.{ones, trailingZeros, ones-step, trailing-of-zero}
 use lib.Dec.{eqb, eqb·suc-zero, eqb·suc-suc, lit<}
 use lib.ListN.{length, getD, drop}
 use borrow.Author.Tests.{eqb-true, eq-eqb}
-use Rattle.atomset.specs.AtomSet.{has, Member, consIf, membersFrom, members, Rising}
+use Rattle.elk.specs.Instance.{Rising}
+use Rattle.atomset.specs.AtomSet.{has, Member, consIf, membersFrom, members}
 use Rattle.atomset.proofs.Digits.{half-lt, low-cases, has-zero, has-power}
 use Rattle.atomset.proofs.Membership.{member-lt, member-difference}
 use Rattle.atomset.proofs.Rising.{rising-cons, rising-unique}

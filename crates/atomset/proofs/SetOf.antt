@@ -8,7 +8,8 @@ use Prim.Native.Nat.{ℕ, _^_, _<_}
 use lib.Bits.{or-lt}
 use lib.Pow.{pow-pos, pow-lt}
 use borrow.Author.Tests.{eqb-true, eq-eqb}
-use Rattle.atomset.specs.AtomSet.{Member, setOf, members, Rising}
+use Rattle.elk.specs.Instance.{Rising}
+use Rattle.atomset.specs.AtomSet.{Member, setOf, members}
 use Rattle.atomset.proofs.Digits.{has-or, has-zero, has-power}
 use Rattle.atomset.proofs.Membership.{member-union}
 use Rattle.atomset.proofs.Members.{members-unique}

@@ -38,9 +38,3 @@ members set = membersFrom set 0 64
 unfoldable pub setOf : List ℕ → ℕ
 setOf [] = 0
 setOf (i ∷ is) = bitOr (2 ^ i) (setOf is)
-
--- a strictly rising list: each element is below the next
-abbrev pub Rising : List ℕ → Type 0
-Rising [] = Unit {0}
-Rising (x ∷ []) = Unit {0}
-Rising (x ∷ (y ∷ ys)) = (x < y) × Rising (y ∷ ys)

@@ -83,7 +83,8 @@ pub record OfBody (b : Body) (s : Rule) (t : Schema) (formulas : List ℕ) (h : 
 -- the row is an instance of the rule with its premises
 abbrev pub InstanceHanded : Body → Schema → Handed → Type 0
 InstanceHanded b t h =
-    SchemaInstance t (decodedAt (b .nodes) (h .principal)) (map (sequentWith (b .nodes) (t .kind)) (premisesHanded h)) (sequentWith (b .nodes) (t .kind) (h .row))
+    SchemaInstance t (decodedAt (b .nodes) (h .principal)) (map (sequentWith (b .nodes) (t .kind)) (premisesHanded h))
+    (sequentWith (b .nodes) (t .kind) (h .row))
 
 -- Where the table holds a body, whether the row is an instance. Where it holds none, by the records that stand there. Where a side
 -- does not rise strictly the answer is free, but it is true only where the sides fit, or the row is an instance.

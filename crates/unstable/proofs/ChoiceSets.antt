@@ -9,16 +9,9 @@ use Rattle.equilibrium.specs.Formula.{Formula, atom, neg, atomsOf, atomsIn}
 use Rattle.equilibrium.specs.Meaning.{_∈_, _⊆_}
 use Rattle.equilibrium.proofs.Satisfaction.{occurs}
 use Rattle.elk.specs.Instance.{domain, chosen, put, fixed}
-use Rattle.elk.specs.Instance.{Choice as Chosen, Rising as RisingAtoms}
-use Rattle.atomset.specs.AtomSet.{Rising}
+use Rattle.elk.specs.Instance.{Choice as Chosen, Rising}
 use Rattle.atomset.proofs.Rising.{rising-cons, rising-below, rising-rest}
 use Rattle.unstable.proofs.Steps.{in-put}
-
--- the two relations that say that a list rises are one
-pub rising-atoms : (ps : List ℕ) → RisingAtoms ps ↔ Rising ps
-rising-atoms [] = (λ r. tt, λ r. tt)
-rising-atoms (p ∷ []) = (λ r. tt, λ r. tt)
-rising-atoms (p ∷ q ∷ qs) = let later = rising-atoms (q ∷ qs) in (λ r. (r .0, later .0 (r .1)), λ r. (r .0, later .1 (r .1)))
 
 -- S is part of V
 pub chosen-part : (c : Chosen) → chosen c ⊆ domain c

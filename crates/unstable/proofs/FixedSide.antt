@@ -9,13 +9,13 @@ use borrow.Author.Tests.{eqb-true, eq-eqb}
 use lib.Dec.{eqb}
 use Rattle.equilibrium.specs.Formula.{Formula, atom, neg}
 use Rattle.equilibrium.specs.Meaning.{_∈_, _⊆_, _≈_}
-use Rattle.elk.specs.Instance.{domain, chosen, fixed}
+use Rattle.elk.specs.Instance.{domain, chosen, fixed, Rising}
 use Rattle.elk.specs.Instance.{Choice as Chosen}
 use Rattle.format.specs.File.{Body, decodedAt, decoded}
 use Rattle.format.proofs.GoodBodies.{Held, good-held}
 use Rattle.format.proofs.Formulas.{known-earlier}
 use Rattle.format.proofs.Decoded.{in-decoded, decoded-in, number-on}
-use Rattle.atomset.specs.AtomSet.{has, Member, Rising}
+use Rattle.atomset.specs.AtomSet.{has, Member}
 use Rattle.tables.specs.Holding.{Formulas, Sided}
 use Rattle.shapes.specs.declared.Shape.{Shape}
 use Rattle.shapes.proofs.Shown.{

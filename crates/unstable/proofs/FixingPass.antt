@@ -11,8 +11,9 @@ use borrow.Author.Tests.{eqb-true, eqb-false, lt-ltb, le-ltb, ltb-true, ltb-fals
 use lib.Dec.{eqb, ltb}
 use lib.ListN.{length, getD, drop, drop-of-length-le}
 use lib.Seq.{drop-cons, drop-drop}
+use Rattle.elk.specs.Instance.{Rising}
 use Rattle.equilibrium.specs.Meaning.{_∈_}
-use Rattle.atomset.specs.AtomSet.{has, Member, Included, Rising, members}
+use Rattle.atomset.specs.AtomSet.{has, Member, Included, members}
 use Rattle.atomset.proofs.Digits.{has-zero}
 use Rattle.atomset.proofs.Membership.{member-union}
 use Rattle.atomset.proofs.Members.{member-members}

@@ -11,14 +11,14 @@ use Rattle.equilibrium.specs.Formula.{Formula, atomsOf, atomsIn}
 use Rattle.equilibrium.specs.Meaning.{_∈_, _⊆_, _≈_}
 use Rattle.equilibrium.proofs.Sets.{≈-refl}
 use Rattle.elk.specs.Sequent.{_⇒_, _⨾_}
-use Rattle.elk.specs.Instance.{domain, chosen, literal, fixed, excluded-middle, joined}
+use Rattle.elk.specs.Instance.{domain, chosen, literal, fixed, excluded-middle, joined, Rising}
 use Rattle.elk.specs.Instance.{Choice as Chosen}
 use Rattle.elk.proofs.Entries.{UnstableTest, unstable-iff}
 use Rattle.format.specs.File.{Body, decodedAt, decoded}
 use Rattle.format.proofs.GoodBodies.{Held, good-held}
 use Rattle.format.proofs.Formulas.{known-earlier, equal-numbers}
 use Rattle.format.proofs.Decoded.{in-decoded, decoded-in, number-on}
-use Rattle.atomset.specs.AtomSet.{has, Member, Rising, members, setOf}
+use Rattle.atomset.specs.AtomSet.{has, Member, members, setOf}
 use Rattle.atomset.proofs.Membership.{member-lt}
 use Rattle.atomset.proofs.Rising.{rising-unique}
 use Rattle.atomset.proofs.Members.{members-rising, member-members, members-unique}
@@ -31,7 +31,7 @@ use Rattle.unstable.specs.Fixing.{Fixes}
 use Rattle.unstable.specs.Unstable.{onSide, WordOf, Reads, UnstableIn, UnstableSides}
 use Rattle.unstable.proofs.Steps.{rising-of}
 use Rattle.unstable.proofs.Joined.{choice-sound, choice-complete, middles-iff}
-use Rattle.unstable.proofs.ChoiceSets.{rising-atoms, chosen-part, chosen-rising, in-atoms}
+use Rattle.unstable.proofs.ChoiceSets.{chosen-part, chosen-rising, in-atoms}
 use Rattle.unstable.proofs.Words.{rest-word, restOf}
 use Rattle.unstable.proofs.FixedSide.{fixes-iff}
 
@@ -157,7 +157,7 @@ module _
 
             all : domain c ≡ members v
             all =
-                rising-unique (domain c) (members v) (rising-atoms (domain c) .0 (t .rising)) (members-rising v)
+                rising-unique (domain c) (members v) (t .rising) (members-rising v)
                 (λ z m. member-members v (is-v .small) z .0 (in-v z .1 (t .atoms .0 z m)))
                 (λ z m. t .atoms .1 z (in-v z .0 (member-members v (is-v .small) z .1 m)))
 
@@ -185,7 +185,7 @@ module _
         L = decoded (b .nodes) left;
         R = R;
         choice = c;
-        rising = rising-atoms (domain c) .1 domain-rises;
+        rising = domain-rises;
         atoms = (λ z m. in-v z .0 (in-domain z .0 m), λ z m. in-domain z .1 (in-v z .1 m));
         member = h .member;
         not-empty = h .not-empty;

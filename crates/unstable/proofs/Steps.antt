@@ -10,10 +10,10 @@ use borrow.Author.Tests.{eqb-true, eq-eqb, ne-eqb, lt-ltb, ltb-true, not-true, n
 use lib.Dec.{eqb, ltb, eqb·suc-zero}
 use lib.ListN.{length, getD, drop}
 use Rattle.equilibrium.specs.Meaning.{_∈_}
-use Rattle.elk.specs.Instance.{chosen, put}
+use Rattle.elk.specs.Instance.{chosen, put, Rising}
 use Rattle.elk.specs.Instance.{Choice as Chosen}
 use Rattle.format.specs.Text.{_<$>_, strictlyRising}
-use Rattle.atomset.specs.AtomSet.{has, Member, Rising, members}
+use Rattle.atomset.specs.AtomSet.{has, Member, members}
 use Rattle.atomset.proofs.Digits.{has-zero}
 use Rattle.atomset.proofs.Membership.{member-lt}
 use Rattle.atomset.proofs.Members.{member-members}

@@ -100,7 +100,8 @@ returns-3 : tie.Need-returns-3
 returns-3 c =
     let ran = c .before .before .before .before .before .before .before .before .before .before in
     let long = ran .before .before .before .before .before .before in
-    let tested = long .before .before .before .before .before .before .before .before .before .before .before .before .before .before .before .before .before .before in
+    let cleared = long .before .before .before .before .before .before .before .before .before .before .before .before in
+    let tested = cleared .before .before .before .before .before .before in
     let args = tested .before .before .before .before .before .before .before .args in
     let lent = lengths (five (args .names .now) (args .formulas .now) (args .rows .now) (args .left .now) (args .right .now)) in
     let last = ran .run-or-clear .last .1 in

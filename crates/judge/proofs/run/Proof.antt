@@ -36,7 +36,8 @@ loop-holds c =
     let args = entry .args in
     let lent = tables (args .names .now) (args .formulas .now) (args .words .now) (args .rows .now) (args .left .now) (args .right .now) in
     let started = running-start (args .text .now) lent (entry .pre .1) (entry .pre .2) (entry .pre .3) in
-    (subst (λ (s : State). Running (args .text .now) 1 0 s lent) (sym (c .before .start .ensures)) started, c .find .ensures, refl, refl, refl, refl, refl, refl)
+    let first = subst (λ (s : State). Running (args .text .now) 1 0 s lent) (sym (c .before .start .ensures)) started in
+    (first, c .find .ensures, refl, refl, refl, refl, refl, refl)
 
 step-line-requires : tie.Need-step-line-requires Inv-loop μ-loop
 step-line-requires c κs = search needs
