@@ -1,6 +1,6 @@
 -- A set of atoms as one word: the atom i is a member if the word's binary digit i is 1, where the lowest digit is digit 0. A word of 64
 -- digits is a set of atoms below 64. Words are natural numbers here. Assumes nothing.
-use Prim.Native.Nat.{ℕ, zero, suc, _/_, _%_, _^_, _<_}
+use Prim.Native.Nat.{ℕ, zero, suc, _/_, _%_, _^_}
 use mathlib.Core.Bool.{Bool, true, false}
 use mathlib.Core.List.{List, [], _∷_}
 use mathlib.Core.Path.{_≡_}
