@@ -17,9 +17,9 @@ use Rattle.format.specs.Tables.{padded, mostBytes}
 use Rattle.format.specs.Judged.{Place, Outcome, next, refused, step, below, top, beginning, accepted, turnedDown, orNoClaim, runFrom, answerFrom}
 use Rattle.format.proofs.Stepping.{run-next, answer-next, answer-refused, answer-stub, run-end, answer-end, step-refused}
 use Rattle.format.proofs.Beginnings.{step-good, good-start}
-use Rattle.text.specs.Parts.{nextAt, between}
-use Rattle.text.proofs.PartLaws.{next-bounds, next-part, last-part}
-use Rattle.tables.proofs.Indexing.{index-none}
+use Rattle.parts.specs.Parts.{nextAt, between}
+use Rattle.parts.proofs.PartLaws.{next-bounds, next-part, last-part}
+use Rattle.known.proofs.Indexing.{index-none}
 use Rattle.lines.specs.State.{Memory, Full, Steps, start, claimLine}
 use Rattle.lines.specs.Stepping.{LineStepped}
 use Rattle.lines.specs.declared.state.State.{State}

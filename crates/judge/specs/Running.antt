@@ -8,7 +8,7 @@ use Rattle.format.specs.Text.{Bytes, lineFeed}
 use Rattle.format.specs.File.{File, noFile}
 use Rattle.format.specs.Judged.{Place, top, beginning, turnedDown, runFrom, answerFrom}
 use Rattle.format.specs.Good.{Good}
-use Rattle.text.specs.Parts.{nextAt}
+use Rattle.parts.specs.Parts.{nextAt}
 use Rattle.lines.specs.State.{Memory, Stored}
 use Rattle.lines.specs.declared.state.State.{State}
 use Rattle.judge.specs.declared.Ran.{Ran}

@@ -9,20 +9,20 @@ ghost use Rattle.format.specs.Tables.{tooShort, mostBytes};
 ghost use Rattle.lines.specs.State.{Memory, Full, tables};
 ghost use Rattle.judge.specs.Contract.{five, lengths, Judges, Checks, Accepts, Refuses, Zeros};
 ghost use Rattle.judge.specs.Running.{Runs};
+use counts::limits::MOST_ATOMS;
+use counts::limits::MOST_BYTES;
+use counts::limits::MOST_ENTRIES;
+use counts::limits::MOST_FORMULAS;
+use counts::limits::MOST_ROWS;
+use counts::limits::NAME_WIDTH;
+use counts::limits::NODE_WIDTH;
+use counts::limits::ROW_WIDTH;
 use lines::state::CLAIMED;
 use lines::state::State;
 use lines::step_line;
+use parts::find;
+use parts::refusals::BAD_LINE;
 use tables::clear;
-use tables::limits::MOST_ATOMS;
-use tables::limits::MOST_BYTES;
-use tables::limits::MOST_ENTRIES;
-use tables::limits::MOST_FORMULAS;
-use tables::limits::MOST_ROWS;
-use tables::limits::NAME_WIDTH;
-use tables::limits::NODE_WIDTH;
-use tables::limits::ROW_WIDTH;
-use text::parts::find;
-use text::refusals::BAD_LINE;
 
 // Refusal number and line; number 0 is acceptance, with the line of the claim.
 #[repr(C)]

@@ -21,17 +21,17 @@ use Rattle.format.specs.Good.{Good}
 use Rattle.format.proofs.Booleans as booleans
 use Rattle.format.proofs.Tested.{passes}
 use Rattle.format.proofs.Stepping.{first-applies, first-passes, step-atom}
-use Rattle.text.specs.Parts.{startOf, between, FieldAt, Fielded}
+use Rattle.parts.specs.Parts.{startOf, between, FieldAt, Fielded}
 use Rattle.text.specs.Numbers.{numberAs}
 use Rattle.text.specs.declared.numbers.Number.{Number}
-use Rattle.text.specs.declared.parts.Fields.{Fields}
-use Rattle.tables.specs.Counts as counting
+use Rattle.parts.specs.declared.Fields.{Fields}
+use Rattle.counts.specs.Counts as counting
 use Rattle.tables.specs.Holding.{Begins}
 use Rattle.tables.specs.Names.{firstRecords, spelledBy, placeFrom, placeOf, foundAs, StandsIn}
 use Rattle.tables.specs.Records.{written}
-use Rattle.tables.specs.declared.counts.Counts.{Counts}
+use Rattle.counts.specs.declared.Counts.{Counts}
 use Rattle.tables.specs.declared.found.Found.{Found}
-use Rattle.tables.proofs.Counting.{counts-atom}
+use Rattle.counts.proofs.Counting.{counts-atom}
 use Rattle.tables.proofs.Encoded.{begins-padded, names-length, name-found}
 use Rattle.rows.specs.Early.{numbered}
 use Rattle.lines.specs.State.{refusedBy, passedBy, notNext, Memory, Exactly, Stored}

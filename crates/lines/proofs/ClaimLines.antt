@@ -28,7 +28,7 @@ use Rattle.text.specs.Lists.{listedAs, ListedInto}
 use Rattle.text.specs.declared.lists.Listed.{Listed}
 use Rattle.tables.specs.Holding.{HoldsRows}
 use Rattle.tables.specs.Records.{rowOf}
-use Rattle.tables.specs.declared.counts.Counts.{Counts}
+use Rattle.counts.specs.declared.Counts.{Counts}
 use Rattle.tables.proofs.Encoded.{rule-held, side-held}
 use Rattle.rows.specs.Early.{pastOf, numbered}
 use Rattle.rows.specs.Judgement.{Laid}

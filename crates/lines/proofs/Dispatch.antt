@@ -9,12 +9,12 @@ use lib.ListN.{length, getD}
 use Rattle.format.specs.Text.{Bytes, bytes, fieldsOf, is}
 use Rattle.format.specs.Line.{lineOf, ofKind}
 use Rattle.format.proofs.Booleans.{same-list}
-use Rattle.text.specs.Parts.{between, Fielded, FieldPart}
-use Rattle.text.specs.Refusals.{badLine}
-use Rattle.text.specs.Words.{kindOf, KindRead}
-use Rattle.text.specs.declared.words.Kind.{Kind}
-use Rattle.text.specs.declared.words.Kind.the-variants.{Atom, Formula, Row, Claim, Unknown}
-use Rattle.text.specs.declared.parts.Fields.{Fields}
+use Rattle.parts.specs.Parts.{between, Fielded, FieldPart}
+use Rattle.parts.specs.Refusals.{badLine}
+use Rattle.keywords.specs.Words.{kindOf, KindRead}
+use Rattle.keywords.specs.declared.Kind.{Kind}
+use Rattle.keywords.specs.declared.Kind.the-variants.{Atom, Formula, Row, Claim, Unknown}
+use Rattle.parts.specs.declared.Fields.{Fields}
 use Rattle.lines.specs.State.{refusedBy, Memory}
 use Rattle.lines.specs.Lined.{Lined}
 use Rattle.lines.specs.Stepping.{LineStepped}

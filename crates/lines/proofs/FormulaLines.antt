@@ -20,23 +20,23 @@ use Rattle.format.proofs.Booleans.{list-same}
 use Rattle.format.proofs.GoodBodies.{Held, good-held}
 use Rattle.format.proofs.Stepping.{step-formula}
 use Rattle.format.proofs.Formulas.{known-earlier}
-use Rattle.text.specs.Parts.{Fielded, FieldPart}
+use Rattle.parts.specs.Parts.{Fielded, FieldPart}
 use Rattle.text.specs.Numbers.{numberAs, NumberRead}
-use Rattle.text.specs.Words.{formulaWord}
+use Rattle.keywords.specs.Words.{formulaWord}
 use Rattle.text.specs.declared.numbers.Number.{Number}
-use Rattle.text.specs.declared.parts.Fields.{Fields}
+use Rattle.parts.specs.declared.Fields.{Fields}
 use Rattle.tables.specs.Records.{written, nodeNumbers}
-use Rattle.tables.specs.Counts.{countsOf, withFormula}
-use Rattle.tables.specs.Index.{NodeFound}
-use Rattle.tables.specs.Entering.{Appended, FormulaEntered}
-use Rattle.tables.specs.declared.counts.Counts.{Counts}
+use Rattle.counts.specs.Counts.{countsOf, withFormula}
+use Rattle.known.specs.Index.{NodeFound}
+use Rattle.known.specs.Entering.{Appended, FormulaEntered}
+use Rattle.counts.specs.declared.Counts.{Counts}
 use Rattle.tables.specs.declared.found.Found.{Found}
-use Rattle.tables.specs.declared.formulas.Entry.{Entry}
+use Rattle.known.specs.declared.Entry.{Entry}
 use Rattle.tables.specs.declared.records.NodeRecord.{NodeRecord}
-use Rattle.tables.proofs.Counting.{counts-node}
+use Rattle.counts.proofs.Counting.{counts-node}
 use Rattle.tables.proofs.Encoded.{nodes-length}
-use Rattle.tables.proofs.Indexing.{length-entered, record-there}
-use Rattle.tables.proofs.Knowing.{known-more}
+use Rattle.known.proofs.Indexing.{length-entered, record-there}
+use Rattle.known.proofs.Knowing.{known-more}
 use Rattle.lines.specs.State.{refusedBy, passedBy, notNext, Memory, Exactly, Stored}
 use Rattle.lines.specs.Lined.{OfKind, Lined}
 use Rattle.lines.specs.FormulaLines.{writtenAs, narrowed, aheadIn, FormulaNumbered, FormulaLined, withFormulas}

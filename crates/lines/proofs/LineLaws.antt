@@ -36,7 +36,7 @@ use Rattle.format.specs.Good.{Good}
 use Rattle.format.proofs.Stepping.{step-bad}
 use Rattle.text.specs.Numbers.{numberAs}
 use Rattle.text.specs.Lists.{laidOver, listedAs}
-use Rattle.text.specs.Refusals.{badLine}
+use Rattle.parts.specs.Refusals.{badLine}
 use Rattle.text.specs.declared.numbers.Number.{Number}
 use Rattle.text.specs.declared.lists.Listed.{Listed}
 use Rattle.tables.specs.Records.{written}

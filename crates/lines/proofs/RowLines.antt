@@ -37,14 +37,14 @@ use Rattle.format.proofs.Stepping.{first-applies, first-passes, step-row}
 use Rattle.rules.proofs.RuleNumbers.{code-below}
 use Rattle.text.specs.Numbers.{principalAs, NumberRead, PrincipalRead}
 use Rattle.text.specs.Lists.{listedAs, laidOver, ListedInto}
-use Rattle.text.specs.Words.{noRule, ruleCode}
+use Rattle.keywords.specs.Words.{noRule, ruleCode}
 use Rattle.text.specs.declared.numbers.Number.{Number}
 use Rattle.text.specs.declared.numbers.Optional.{Optional}
 use Rattle.text.specs.declared.lists.Listed.{Listed}
-use Rattle.tables.specs.Counts.{countsOf, fullFor, withRow as countRow}
+use Rattle.counts.specs.Counts.{countsOf, fullFor, withRow as countRow}
 use Rattle.tables.specs.Records.{written, rowNumbers}
-use Rattle.tables.specs.declared.counts.Counts.{Counts}
-use Rattle.tables.proofs.Counting.{counts-row}
+use Rattle.counts.specs.declared.Counts.{Counts}
+use Rattle.counts.proofs.Counting.{counts-row}
 use Rattle.tables.proofs.Encoded.{rows-length, put-row-encoded}
 use Rattle.rows.specs.Early.{numbered}
 use Rattle.rows.specs.Judgement.{Narrow, Laid, Drafted, RowNumbered}

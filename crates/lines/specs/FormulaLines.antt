@@ -11,7 +11,7 @@ use Rattle.format.specs.Text.{Bytes}
 use Rattle.format.specs.File.{Node}
 use Rattle.format.specs.Tables.{nodeRecord, mostFormulas}
 use Rattle.format.specs.Tests.{Test, _when_, first}
-use Rattle.tables.specs.declared.counts.Counts.{Counts}
+use Rattle.counts.specs.declared.Counts.{Counts}
 use Rattle.tables.specs.declared.records.NodeRecord.{NodeRecord}
 use Rattle.rows.specs.Early.{numbered}
 use Rattle.lines.specs.State.{notNext, Memory}

@@ -13,11 +13,11 @@ use Rattle.format.specs.Line.{rowLine, ruleOf, lineOf}
 use Rattle.format.specs.Tables.{absent, rowWidth}
 use Rattle.text.specs.Numbers.{numberAs, principalAs}
 use Rattle.text.specs.Lists.{listedAs, laidOver}
-use Rattle.text.specs.Words.{noRule, ruleCode}
+use Rattle.keywords.specs.Words.{noRule, ruleCode}
 use Rattle.text.specs.declared.numbers.Number.{Number}
 use Rattle.text.specs.declared.numbers.Optional.{Optional}
 use Rattle.tables.specs.Records.{written, rowNumbers}
-use Rattle.tables.specs.declared.counts.Counts.{Counts}
+use Rattle.counts.specs.declared.Counts.{Counts}
 use Rattle.tables.specs.declared.records.RowRecord.{RowRecord}
 use Rattle.rows.specs.Judgement.{Laid}
 use Rattle.rows.specs.Judging.{principalOf as principalNumber}

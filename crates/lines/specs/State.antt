@@ -12,10 +12,10 @@ use Rattle.format.specs.File.{Name, Claim, File}
 use Rattle.format.specs.Tables.{padded, joinAll, nameRecord, nodeRecord, rowRecords, leftPool, rightPool, mostFormulas, Lent, least}
 use Rattle.format.specs.Tests.{rank}
 use Rattle.format.specs.Judged.{Outcome, next, refused}
-use Rattle.tables.specs.Counts.{countsOf, noCounts}
-use Rattle.tables.specs.Known.{Known}
+use Rattle.counts.specs.Counts.{countsOf, noCounts}
+use Rattle.known.specs.Known.{Known}
 use Rattle.tables.specs.Names.{StandsIn}
-use Rattle.tables.specs.declared.counts.Counts.{Counts}
+use Rattle.counts.specs.declared.Counts.{Counts}
 use Rattle.lines.specs.declared.state.State.{State}
 use Rattle.lines.specs.declared.state.Stepped.{Stepped}
 

@@ -3,8 +3,8 @@ use Prim.Native.Nat.{ℕ, _≤_}
 use mathlib.Core.Path.{_≡_}
 use lib.ListN.{length}
 use Rattle.format.specs.Text.{Bytes}
-use Rattle.text.specs.Parts.{between}
-use Rattle.text.specs.Refusals.{badLine}
+use Rattle.parts.specs.Parts.{between}
+use Rattle.parts.specs.Refusals.{badLine}
 use Rattle.lines.specs.State.{refusedBy, Memory}
 use Rattle.lines.specs.Lined.{Lined}
 use Rattle.lines.specs.declared.state.State.{State}

@@ -2,7 +2,7 @@
 ghost use mathlib.Core.Path.{_≡_};
 ghost use Prim.Native.Nat.{_≤_};
 ghost use lib.ListN.{length};
-ghost use Rattle.text.specs.Parts.{between, Fielded};
+ghost use Rattle.parts.specs.Parts.{between, Fielded};
 ghost use Rattle.lines.specs.Lined.{OfKind};
 ghost use Rattle.lines.specs.AtomLines.{AtomNumbered, AtomLined};
 use crate::numbers::narrow_place;
@@ -10,16 +10,16 @@ use crate::state::ATOMS;
 use crate::state::State;
 use crate::state::Stepped;
 use crate::state::out_of_order;
+use counts::limits::MOST_ATOMS;
+use parts::Fields;
+use parts::field;
+use parts::refusals::BAD_LINE;
 use tables::found::Found;
-use tables::limits::MOST_ATOMS;
 use tables::names::find_name;
 use tables::records::put_name;
 use text::names::is_name;
 use text::numbers::Number;
 use text::numbers::read_number;
-use text::parts::Fields;
-use text::parts::field;
-use text::refusals::BAD_LINE;
 
 // The first of the numbers 4 to 6 that applies to an atom, 0 if none does.
 fn atom_number(text: &[u8], names: &[u16], state: State, n: u32, name: &[u8]) -> u32

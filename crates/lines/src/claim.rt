@@ -6,27 +6,27 @@ ghost use Rattle.format.specs.File.{Row};
 ghost use Rattle.format.specs.Tests.{first, lastIs};
 ghost use Rattle.rows.specs.Early.{numbered};
 ghost use Rattle.tables.specs.Holding.{HoldsRows};
-ghost use Rattle.text.specs.Parts.{Fielded};
+ghost use Rattle.parts.specs.Parts.{Fielded};
 ghost use Rattle.lines.specs.Lined.{OfKind};
 ghost use Rattle.lines.specs.ClaimLines.{claimOf, ClaimSettled, ClaimLined};
 use crate::state::CLAIMED;
 use crate::state::State;
 use crate::state::Stepped;
 use crate::state::out_of_turn;
+use counts::limits::MOST_ON_SIDE;
+use parts::Fields;
+use parts::field;
+use parts::refusals::BAD_LINE;
 use rows::early::bad_sides;
 use rows::early::past;
 use rules::KIND;
 use rules::rule_number;
 use sides::members::same;
 use tables::fetch;
-use tables::limits::MOST_ON_SIDE;
 use tables::records::front;
 use tables::records::row;
 use text::lists::Listed;
 use text::lists::read_list;
-use text::parts::Fields;
-use text::parts::field;
-use text::refusals::BAD_LINE;
 
 // Whether the last of `count` rows is an ELK row with exactly these sides.
 fn last_is<'a>(

@@ -2,7 +2,7 @@
 ghost use mathlib.Core.Path.{_≡_};
 ghost use mathlib.Core.Option.{none};
 ghost use Rattle.format.specs.Line.{nodeOf};
-ghost use Rattle.text.specs.Parts.{Fielded};
+ghost use Rattle.parts.specs.Parts.{Fielded};
 ghost use Rattle.lines.specs.Lined.{OfKind};
 ghost use Rattle.lines.specs.FormulaLines.{writtenAs, narrowed, aheadIn, FormulaNumbered, FormulaLined};
 use crate::numbers::narrow;
@@ -10,19 +10,19 @@ use crate::state::FORMULAS;
 use crate::state::State;
 use crate::state::Stepped;
 use crate::state::out_of_order;
-use tables::counts::Counts;
-use tables::formulas::Entry;
-use tables::formulas::enter_formula;
-use tables::limits::MOST_FORMULAS;
+use counts::Counts;
+use counts::limits::MOST_FORMULAS;
+use keywords::NO_WORD;
+use keywords::formula_word;
+use known::Entry;
+use known::enter_formula;
+use parts::Fields;
+use parts::field;
+use parts::is_dash;
+use parts::refusals::BAD_LINE;
 use tables::records::NodeRecord;
 use text::numbers::Number;
 use text::numbers::read_number;
-use text::parts::Fields;
-use text::parts::field;
-use text::parts::is_dash;
-use text::refusals::BAD_LINE;
-use text::words::NO_WORD;
-use text::words::formula_word;
 
 // A formula as it is written: a word from 0 to 5, and its operands, 65,535 where it has none.
 pub struct Written {

@@ -12,14 +12,14 @@ ghost use Rattle.lines.specs.Stepping.{LineStepped};
 use atom::atom_line;
 use claim::claim_line;
 use formula::formula_line;
+use keywords::Kind;
+use keywords::line_kind;
+use parts::field;
+use parts::read_fields;
+use parts::refusals::BAD_LINE;
 use row::row_line;
 use state::State;
 use state::Stepped;
-use text::parts::field;
-use text::parts::read_fields;
-use text::refusals::BAD_LINE;
-use text::words::Kind;
-use text::words::line_kind;
 
 // The line from `start` to `end` of the text, which is line `number`. A place outside the text is refused as a bad line.
 pub fn step_line(

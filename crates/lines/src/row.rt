@@ -1,7 +1,7 @@
 // N lines: a row is read, judged apart from being stored, and stored where it passes.
 ghost use mathlib.Core.Path.{_≡_};
 ghost use Rattle.format.specs.Text.{fieldsOf};
-ghost use Rattle.text.specs.Parts.{Fielded};
+ghost use Rattle.parts.specs.Parts.{Fielded};
 ghost use Rattle.lines.specs.Lined.{OfKind};
 ghost use Rattle.lines.specs.RowLines.{isNumber, isBad, RowInto, wellOf, otherIn, draftOf, recordOf, RowStored, RowSettled, RowLined};
 use crate::numbers::narrow;
@@ -10,11 +10,17 @@ use crate::state::ROWS;
 use crate::state::State;
 use crate::state::Stepped;
 use crate::state::out_of_order;
+use counts::Counts;
+use counts::limits::MOST_ON_SIDE;
+use keywords::NO_RULE;
+use keywords::rule_word;
+use parts::Fields;
+use parts::MOST_FIELDS;
+use parts::field;
+use parts::refusals::BAD_LINE;
 use rows::draft::Draft;
 use rows::draft::principal_number;
 use rows::row_number;
-use tables::counts::Counts;
-use tables::limits::MOST_ON_SIDE;
 use tables::records::ABSENT;
 use tables::records::RowRecord;
 use tables::records::front;
@@ -26,12 +32,6 @@ use text::numbers::Number;
 use text::numbers::Optional;
 use text::numbers::read_number;
 use text::numbers::read_principal;
-use text::parts::Fields;
-use text::parts::MOST_FIELDS;
-use text::parts::field;
-use text::refusals::BAD_LINE;
-use text::words::NO_RULE;
-use text::words::rule_word;
 
 // A row as it is written: its number, rule and principal formula, and what is known of its lists.
 pub struct RowRead {

@@ -1,7 +1,7 @@
 // What an accepted beginning has going besides its tables, handed in and back by value with each line.
 ghost use mathlib.Core.Path.{_≡_};
 ghost use Rattle.lines.specs.State.{start, refusedBy, passedBy, outOfTurn, notNext};
-use tables::counts::Counts;
+use counts::Counts;
 
 // The counts of what the tables hold; the stage, that is the kind of the last line; and the line of the claim, 0 if there is none.
 pub struct State {

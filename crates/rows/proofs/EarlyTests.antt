@@ -22,9 +22,9 @@ use Rattle.text.specs.Numbers.{principalAs}
 use Rattle.text.specs.Lists.{largest, listedAs}
 use Rattle.text.specs.declared.numbers.Optional.{Optional}
 use Rattle.text.specs.declared.lists.Listed.{Listed}
-use Rattle.tables.specs.Counts.{countsOf, fullFor}
+use Rattle.counts.specs.Counts.{countsOf, fullFor}
 use Rattle.tables.specs.Holding.{Sided}
-use Rattle.tables.specs.declared.counts.Counts.{Counts}
+use Rattle.counts.specs.declared.Counts.{Counts}
 use Rattle.rows.specs.Early.{pastOf, aheadOf, badOf, referencesOf, earlyOf}
 use Rattle.rows.specs.Judgement.{Narrow, Drafted, Ground, earlyTests}
 use Rattle.rows.specs.Judging.{Judging}

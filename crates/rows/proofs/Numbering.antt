@@ -12,7 +12,7 @@ use Rattle.format.specs.File.{Row, Body}
 use Rattle.format.specs.Tests.{Test, first, wrongPremises, wrongStep, ruleTests, bodyTests}
 use Rattle.format.specs.Passing.{RowInstance}
 use Rattle.format.proofs.RowPasses.{row-passes-exactly}
-use Rattle.tables.specs.declared.counts.Counts.{Counts}
+use Rattle.counts.specs.declared.Counts.{Counts}
 use Rattle.rows.specs.Early.{earlyOf, numbered}
 use Rattle.rows.specs.Judgement.{Drafted, Ground, earlyTests, RowNumbered}
 use Rattle.rows.specs.Judging.{Judging, refusalOf}

@@ -8,8 +8,8 @@ use Rattle.format.specs.Tables.{mostOnSide}
 use Rattle.format.specs.Tests.{Test, _when_}
 use Rattle.text.specs.declared.numbers.Optional.{Optional}
 use Rattle.text.specs.declared.lists.Listed.{Listed}
-use Rattle.tables.specs.Counts.{fullFor}
-use Rattle.tables.specs.declared.counts.Counts.{Counts}
+use Rattle.counts.specs.Counts.{fullFor}
+use Rattle.counts.specs.declared.Counts.{Counts}
 use Rattle.rows.specs.declared.draft.Draft.{Draft}
 
 -- some number of the list is not below `held`

@@ -15,10 +15,10 @@ use Rattle.format.specs.Passing.{RowInstance}
 use Rattle.text.specs.Numbers.{principalAs}
 use Rattle.text.specs.Lists.{listedAs}
 use Rattle.text.specs.declared.lists.Listed.{Listed}
-use Rattle.tables.specs.Counts.{countsOf}
+use Rattle.counts.specs.Counts.{countsOf}
 use Rattle.tables.specs.Holding.{HoldsNodes, HoldsRows}
-use Rattle.tables.specs.Known.{Known}
-use Rattle.tables.specs.declared.counts.Counts.{Counts}
+use Rattle.known.specs.Known.{Known}
+use Rattle.counts.specs.declared.Counts.{Counts}
 use Rattle.rows.specs.Early.{earlyOf, numbered}
 use Rattle.rows.specs.declared.draft.Draft.{Draft}
 

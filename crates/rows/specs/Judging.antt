@@ -13,7 +13,7 @@ use Rattle.format.specs.Tests.{unknownFormula, listed}
 use Rattle.text.specs.Numbers.{principalAs}
 use Rattle.text.specs.declared.numbers.Optional.{Optional}
 use Rattle.tables.specs.Holding.{HoldsRows, Formulas, Sided}
-use Rattle.tables.specs.Known.{AtomWords}
+use Rattle.known.specs.Known.{AtomWords}
 use Rattle.rows.specs.declared.Verdict.{Verdict}
 use Rattle.rows.specs.declared.draft.Draft.{Draft}
 

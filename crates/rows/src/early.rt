@@ -4,8 +4,8 @@ ghost use mathlib.Core.Bool.{_||_};
 ghost use Rattle.format.specs.Tests.{first};
 ghost use Rattle.rows.specs.Early.{pastOf, aheadOf, badOf, referencesOf, earlyOf, numbered};
 use crate::draft::Draft;
-use tables::counts::Counts;
-use tables::limits::MOST_ON_SIDE;
+use counts::Counts;
+use counts::limits::MOST_ON_SIDE;
 use text::lists::Listed;
 use text::numbers::Optional;
 

@@ -10,11 +10,11 @@ ghost use Rattle.format.specs.File.{Row, Body};
 ghost use Rattle.format.specs.Tests.{first, ruleTests};
 ghost use Rattle.rows.specs.Judgement.{RowNumbered};
 ghost use Rattle.rows.specs.Judging.{Judging, refusalOf};
+use counts::Counts;
 use draft::Draft;
 use early::early_number;
 use premises::wrong_premises;
 use step::step_holds;
-use tables::counts::Counts;
 use tables::records::front;
 
 enum Verdict {

@@ -18,7 +18,24 @@ use Rattle.format.proofs.Decoded.{in-decoded}
 use Rattle.tables.specs.declared.records.NodeRecord.{NodeRecord}
 use Rattle.tables.specs.Records.{nodeAt, recordFrom}
 use Rattle.tables.specs.Holding.{Formulas}
-use Rattle.shapes.specs.Shapes.{doubledBy, doubledIn, negatedBy, negatedIn, shapeBy, shapeIn}
+use Rattle.shapes.specs.Shapes.{
+  doubledBy,
+  doubledIn,
+  negatedBy,
+  negatedIn,
+  shapeBy,
+  shapeIn,
+  Shows,
+  shows-falsum,
+  shows-atom,
+  shows-verum,
+  shows-negated,
+  shows-doubled,
+  shows-conjunction,
+  shows-disjunction,
+  shows-other,
+  ShapeRead,
+}
 use Rattle.shapes.specs.declared.Shape.{Shape}
 use Rattle.shapes.specs.declared.Shape.the-variants.{Falsum, Atom, Verum, Negated, Doubled, Conjunction, Disjunction, Other}
 use Rattle.tables.proofs.Reading.{Told, told-bot, told-atom, told-not, told-and, told-or, told-imp, told}
@@ -90,43 +107,6 @@ module _ (formulas : List ℕ) {n : NodeRecord} {i x : ℕ} (e : n ≡ recordFro
   unfolding shapeIn
   shape-read = ap (shapeBy formulas) its-record
 
--- none of the shapes that have a name
-abbrev pub Unnamed : Formula → Type 0
-Unnamed falsum = ⊥
-Unnamed (atom p) = ⊥
-Unnamed (neg falsum) = ⊥
-Unnamed (neg (atom p)) = ⊥
-Unnamed (neg (neg falsum)) = Unit {0}
-Unnamed (neg (neg (atom p))) = ⊥
-Unnamed (neg (neg (neg A))) = Unit {0}
-Unnamed (neg (neg (conj A B))) = Unit {0}
-Unnamed (neg (neg (disj A B))) = Unit {0}
-Unnamed (neg (neg (imp A B))) = Unit {0}
-Unnamed (neg (conj A B)) = Unit {0}
-Unnamed (neg (disj A B)) = Unit {0}
-Unnamed (neg (imp A B)) = Unit {0}
-Unnamed (conj A B) = ⊥
-Unnamed (disj A B) = ⊥
-Unnamed (imp A B) = Unit {0}
-
--- the numbers are those of the two formulas
-pub record Operands (b : Body) (i j : ℕ) (A B : Formula) : Type 0 where
-  pub first-known : i < length (b .nodes)
-  pub second-known : j < length (b .nodes)
-  pub first-is : decodedAt (b .nodes) i ≡ A
-  pub second-is : decodedAt (b .nodes) j ≡ B
-
--- the shape of a formula of a good body, whose atoms are below 64
-pub data Shows (b : Body) : Formula → Shape → Type 0 where
-  shows-falsum : Shows b falsum Falsum
-  shows-atom : {p : ℕ} → p < 64 → Shows b (atom p) (Atom p)
-  shows-verum : Shows b (neg falsum) Verum
-  shows-negated : {p : ℕ} → p < 64 → Shows b (neg (atom p)) (Negated p)
-  shows-doubled : {p : ℕ} → p < 64 → Shows b (neg (neg (atom p))) (Doubled p)
-  shows-conjunction : {A B : Formula} {i j : ℕ} → Operands b i j A B → Shows b (conj A B) (Conjunction i j)
-  shows-disjunction : {A B : Formula} {i j : ℕ} → Operands b i j A B → Shows b (disj A B) (Disjunction i j)
-  shows-other : {F : Formula} → Unnamed F → Shows b F Other
-
 -- the shapes of ~p and of ~~p
 module _ {b : Body} {F : Formula} {s : Shape} {p : ℕ} (h : Shows b F s) where
   pub negated-shown : F ≡ neg (atom p) → s ≡ Negated p
@@ -191,10 +171,19 @@ module _ {b : Body} {table : List ℕ} (g : Formulas b table) where
       by (told-imp w l m e) =
           shows e (shape-other _ _ (λ k. omega arith) (λ k. omega arith) (λ k. omega arith) (λ k. omega arith) (λ k. omega arith)) (shows-other tt)
 
+-- what is read of a formula, by the shape that the table gives
+pub shape-told : (formulas : List ℕ) (x : ℕ) {r : Shape} → r ≡ shapeIn formulas x → ShapeRead formulas x r
+shape-told formulas x e =
+    record {
+      answer = e;
+      shown = λ b g h. subst (λ (s : Shape). Shows b (decodedAt (b .nodes) x) s) (sym e) (shape-shows g x h);
+    }
+
+module _ {b : Body} {table : List ℕ} (g : Formulas b table) where
   -- each formula of a side of known formulas, with its shape
   module _ (side : List ℕ) (known : unknownFormula b side ≡ false) where
     pub shown : (x : ℕ) → x ∈ side → Shows b (decodedAt (b .nodes) x) (shapeIn table x)
-    shown x m = shape-shows x (known-earlier b side known x m)
+    shown x m = shape-shows g x (known-earlier b side known x m)
 
     pub number-shown : (F : Formula) → F ∈ decoded (b .nodes) side → (x : ℕ) × (x ∈ side) × (F ≡ decodedAt (b .nodes) x) × Shows b F (shapeIn table x)
     number-shown F m =

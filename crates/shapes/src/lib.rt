@@ -1,7 +1,7 @@
 // What a formula is, as far as the rules on literals and `unst` ask. The answer is by the records of the formulas table,
 // whatever they hold; the law for tables that begin with the formulas of a good body stands in proofs/Shown.
 ghost use mathlib.Core.Path.{_≡_};
-ghost use Rattle.shapes.specs.Shapes.{doubledIn, negatedIn, shapeIn};
+ghost use Rattle.shapes.specs.Shapes.{doubledIn, negatedIn, ShapeRead};
 use tables::records::node;
 use tables::records::wide;
 
@@ -49,7 +49,7 @@ fn negated_shape(formulas: &[u16], x: u16) -> Shape
 
 // The shape of formula x.
 pub fn shape_of(formulas: &[u16], x: u16) -> Shape
-    ensures { λ r. ⌜ r ≡ shapeIn (now (formulas .entry)) x ⌝ }
+    ensures { λ r. ⌜ ShapeRead (now (formulas .entry)) x r ⌝ }
 {
     let n = node(formulas, wide(x));
     let word = n.word;

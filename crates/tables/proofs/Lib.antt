@@ -1,8 +1,5 @@
--- Laws of the tables that belong to no one function: of parts and writes, of counts, and of tables that hold a body.
+-- Laws of the tables that belong to no one function: of parts and writes, and of tables that hold a body.
 pub mod Placed
 pub mod Encoded
-pub mod Counting
-pub mod Indexing
 pub mod Reading
-pub mod Knowing
 mod Turns

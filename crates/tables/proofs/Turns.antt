@@ -4,14 +4,16 @@ use Prim.Native.Nat.{ℕ, zero, suc, _+_, _-_, _*_, _≤_, _<_, zero-le}
 use native.Mathlib.Decide.{decLt}
 use native.Mathlib.Nat.{mul-zero, sub-zero}
 use native.Mathlib.Omega.{arith}
-use mathlib.Core.Bool.{Bool, true, false, cond}
+use mathlib.Core.Bool.{Bool, true, false, cond, _||_}
 use mathlib.Core.List.{List, [], _∷_}
 use mathlib.Core.Option.{Option, none, some}
 use mathlib.Core.Path.{_≡_, refl, sym, ap, _∙_}
 use borrow.Author.Tests.{le-leb, lt-leb}
 use lib.ListN.{length, take, drop, length-drop}
 use lib.Seq.{drop-drop}
-use Rattle.tables.specs.Names.{firstRecords, placeFrom, placeOf}
+use Rattle.format.specs.Text.{Bytes, any}
+use Rattle.tables.specs.Names.{firstRecords, spelledBy, placeFrom, placeOf, foundAs, nameRefusal, NameFound}
+use Rattle.tables.specs.declared.names.Found.{Found}
 
 module _ (test : List ℕ → Bool) (width : ℕ) where
   -- the place of the first of so many records that passes, counted from k
@@ -82,3 +84,21 @@ module _ (test : List ℕ → Bool) (width : ℕ) where
         left : Dec (i < count) → foundFrom i (count - i) (drop (width * i) table) ≡ none
         left (yes l) = no-record table (width * i) (p .within) i (count - i) (h l)
         left (no n) = let no-more : count - i ≡ 0 = omega arith in ap (λ (k : ℕ). foundFrom i k (drop (width * i) table)) no-more
+
+-- what the place says of the number
+module _ (text name : Bytes) where
+  abbrev refused : Bool → Option ℕ
+  refused used = cond used (some 6) none
+
+  placed : (k : ℕ) (records : List (List ℕ))
+      → nameRefusal (foundAs (placeFrom k (spelledBy text name) records)) ≡ refused (any (spelledBy text name) records)
+  placed k [] = refl
+  placed k (x ∷ xs) = by-test (spelledBy text name x) (placed (suc k) xs)
+    where
+      by-test : (b : Bool) → nameRefusal (foundAs (placeFrom (suc k) (spelledBy text name) xs)) ≡ refused (any (spelledBy text name) xs)
+          → nameRefusal (foundAs (cond b (some k) (placeFrom (suc k) (spelledBy text name) xs))) ≡ refused (b || any (spelledBy text name) xs)
+      by-test true e = refl
+      by-test false e = e
+
+  pub name-looked : (records : List (List ℕ)) {r : Found} → foundAs (placeOf (spelledBy text name) records) ≡ r → NameFound text name records r
+  name-looked records e = record { answer = sym e; refusal = ap nameRefusal (sym e) ∙ placed 0 records }

@@ -6,9 +6,10 @@ use mathlib.Core.Option.{Option, none, some}
 use mathlib.Core.Path.{_≡_}
 use lib.Dec.{leb}
 use lib.ListN.{length, getD, take, drop}
-use Rattle.format.specs.Text.{Bytes, sameList}
+use Rattle.format.specs.Text.{Bytes, any, sameList}
 use Rattle.format.specs.File.{Name}
-use Rattle.tables.specs.declared.found.Found.{Found}
+use Rattle.format.specs.Tests.{_when_, first}
+use Rattle.tables.specs.declared.names.Found.{Found}
 
 -- the first so many records of this width, as far as they lie inside the table
 unfoldable pub firstRecords : ℕ → ℕ → List ℕ → List (List ℕ)
@@ -34,6 +35,16 @@ placeOf test xs = placeFrom 0 test xs
 abbrev pub foundAs : Option ℕ → Found
 foundAs none = Found.Nowhere
 foundAs (some i) = Found.At i
+
+-- 01's number of each answer, where the name is a new atom's: it is used before
+abbrev pub nameRefusal : Found → Option ℕ
+nameRefusal (Found.At i) = some 6
+nameRefusal Found.Nowhere = none
+
+-- the first of some records that spells the name, and the number that the answer stands for
+pub record NameFound (text name : Bytes) (records : List (List ℕ)) (r : Found) : Type 0 where
+  pub answer : r ≡ foundAs (placeOf (spelledBy text name) records)
+  pub refusal : nameRefusal r ≡ first ((6 when any (spelledBy text name) records) ∷ [])
 
 -- the name stands in the text where its record says
 pub record StandsIn (text : Bytes) (n : Name) : Type 0 where

@@ -2,12 +2,6 @@
 // fetched out of its pool. Every function takes tables of any length and contents: what does not lie inside is absent, and
 // what does not fit changes nothing. The contracts are by definitions over any lists; the laws for tables that hold a file
 // stand in proofs/.
-mod atoms;
-pub mod counts;
-pub mod formulas;
-pub mod found;
-pub mod index;
-pub mod limits;
 pub mod names;
 pub mod records;
 
@@ -15,7 +9,7 @@ ghost use mathlib.Core.Path.{_≡_};
 ghost use lib.ListN.{length, replicate};
 ghost use Rattle.format.specs.Tables.{fetched};
 ghost use Rattle.tables.specs.Records.{sideWanted};
-use limits::ROW_WIDTH;
+use counts::limits::ROW_WIDTH;
 use records::part;
 
 // The antecedent (left) or succedent (right) of a row, as the part of its pool; empty where the row or the part lies outside.

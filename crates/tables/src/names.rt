@@ -3,10 +3,15 @@ ghost use mathlib.Core.Path.{_≡_};
 ghost use Prim.Native.Nat.{min};
 ghost use Rattle.format.specs.Text.{sameList};
 ghost use Rattle.format.specs.Tables.{nameWidth};
-ghost use Rattle.tables.specs.Names.{firstRecords, spelled, spelledBy, placeOf, foundAs};
-use crate::found::Found;
-use crate::limits::NAME_WIDTH;
+ghost use Rattle.tables.specs.Names.{firstRecords, spelled, NameFound};
 use crate::records::wide;
+use counts::limits::NAME_WIDTH;
+
+// Which record has a name.
+pub enum Found {
+    At(usize),
+    Nowhere,
+}
 
 fn least(a: usize, b: usize) -> usize
     ensures { λ r. ⌜ r ≡ min a b ⌝ }
@@ -45,7 +50,7 @@ fn spells(text: &[u8], start: u16, len: u16, name: &[u8]) -> bool
 
 // Which of the first `count` names is this one.
 pub fn find_name(text: &[u8], names: &[u16], count: usize, name: &[u8]) -> Found
-    ensures { λ r. ⌜ r ≡ foundAs (placeOf (spelledBy (now (text .entry)) (now (name .entry))) (firstRecords nameWidth count (now (names .entry)))) ⌝ }
+    ensures { λ r. ⌜ NameFound (now (text .entry)) (now (name .entry)) (firstRecords nameWidth count (now (names .entry))) r ⌝ }
 {
     let end = least(count, names.len() / NAME_WIDTH);
     let mut i = 0;

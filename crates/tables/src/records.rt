@@ -9,9 +9,9 @@ ghost use Rattle.format.specs.Tables.{rowWidth, rowAt};
 ghost use Rattle.format.specs.Tables.{part as partOf};
 ghost use Rattle.format.specs.Tables.{nameWidth, nodeWidth};
 ghost use Rattle.tables.specs.Records.{written, nodeNumbers, rowNumbers, nodeAt, recordFrom, rowOf};
-use crate::limits::NAME_WIDTH;
-use crate::limits::NODE_WIDTH;
-use crate::limits::ROW_WIDTH;
+use counts::limits::NAME_WIDTH;
+use counts::limits::NODE_WIDTH;
+use counts::limits::ROW_WIDTH;
 
 // The number of an absent field.
 pub const ABSENT: u16 = 65535;
@@ -126,7 +126,7 @@ pub fn put_name(names: &mut [u16], count: usize, start: u16, len: u16)
 }
 
 // Writes the record of a formula.
-pub(crate) fn put_node(formulas: &mut [u16], count: usize, node: NodeRecord)
+pub fn put_node(formulas: &mut [u16], count: usize, node: NodeRecord)
     ensures { λ _. ⌜ now (formulas .exit) ≡ written (now (formulas .entry)) (nodeWidth * count) (nodeNumbers node) ⌝ }
 {
     if count >= formulas.len() / NODE_WIDTH {

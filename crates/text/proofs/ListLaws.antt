@@ -11,13 +11,13 @@ use lib.Dec.{ltb}
 use lib.ListN.{length, getD, take, drop, set, length-append, length-take, length-drop}
 use borrow.Author.Tests.{lt-ltb, le-ltb, ltb-true}
 use Rattle.format.specs.Text.{comma, partsAt, each, is, listOf, numberOf, strictlyRising, _<$>_, _<*>_}
-use Rattle.text.specs.Refusals.{badIfNone}
-use Rattle.text.specs.Parts.{before, nextAt, between}
+use Rattle.parts.specs.Refusals.{badIfNone}
+use Rattle.parts.specs.Parts.{before, nextAt, between}
 use Rattle.text.specs.Numbers.{numberAs, digits, entryAs, numberAt}
 use Rattle.text.specs.Lists.{largest, laidOver, listedAs, ListedInto, entryAt, HeldList, listRefusal, leads, numbersAhead, entriesOf}
 use Rattle.text.specs.declared.numbers.Entry.{Entry}
 use Rattle.text.specs.declared.lists.Listed.{Listed}
-use Rattle.text.proofs.PartLaws.{next-inside, next-found, next-least, next-bounds, next-part, last-part, first-part}
+use Rattle.parts.proofs.PartLaws.{next-inside, next-found, next-least, next-bounds, next-part, last-part, first-part}
 use Rattle.text.proofs.NumberLaws.{digits-to-comma, was-bad, was-value, part-bad, part-within, part-cut, part-full}
 
 largest-last : (xs : List ℕ) (n : ℕ) → largest (xs ++ n ∷ []) ≡ max (largest xs) n

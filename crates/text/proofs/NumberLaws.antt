@@ -15,8 +15,8 @@ use lib.Seq.{drop-cons, getD-drop}
 use borrow.Author.Tests.{eq-eqb, ne-eqb, le-leb, lt-leb, eqb-true, leb-true, ltb-true, ltb-false}
 use Rattle.format.specs.Text.{Bytes, numberOf, isDigit, all, leadingZero, valueFrom, is, principalOf, _<$>_, comma}
 use Rattle.format.proofs.Booleans.{and-true as both}
-use Rattle.text.specs.Refusals.{badIfNone}
-use Rattle.text.specs.Parts.{before}
+use Rattle.parts.specs.Refusals.{badIfNone}
+use Rattle.parts.specs.Parts.{before}
 use Rattle.text.specs.Numbers.{numberAs, principalAs, digits, entryAs, numberAt, numberRefusal, NumberRead, principalRefusal, PrincipalRead}
 use Rattle.text.specs.declared.numbers.Number.{Number}
 use Rattle.text.specs.declared.numbers.Optional.{Optional}

@@ -1,6 +1,3 @@
-pub mod Refusals
-pub mod Parts
 pub mod Numbers
 pub mod Lists
 pub mod Names
-pub mod Words

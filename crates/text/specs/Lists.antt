@@ -6,8 +6,8 @@ use mathlib.Core.List.{List, [], _∷_}
 use mathlib.Core.Option.{Option, none, some}
 use lib.ListN.{length}
 use Rattle.format.specs.Text.{Bytes, comma, partsAt, is, numberOf, listOf, strictlyRising}
-use Rattle.text.specs.Refusals.{badUnless, badIfNone}
-use Rattle.text.specs.Parts.{nextAt, between}
+use Rattle.parts.specs.Refusals.{badUnless, badIfNone}
+use Rattle.parts.specs.Parts.{nextAt, between}
 use Rattle.text.specs.Numbers.{numberAs, entryAs}
 use Rattle.text.specs.declared.numbers.Entry.{Entry}
 use Rattle.text.specs.declared.lists.Listed.{Listed}

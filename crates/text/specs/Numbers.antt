@@ -7,7 +7,7 @@ use mathlib.Core.List.{[], _∷_}
 use mathlib.Core.Option.{Option, none, some}
 use lib.ListN.{length, drop}
 use Rattle.format.specs.Text.{Bytes, isDigit, numberOf, principalOf}
-use Rattle.text.specs.Refusals.{badLine, badIfNone}
+use Rattle.parts.specs.Refusals.{badLine, badIfNone}
 use Rattle.text.specs.declared.numbers.Number.{Number}
 use Rattle.text.specs.declared.numbers.Optional.{Optional}
 use Rattle.text.specs.declared.numbers.Entry.{Entry}

@@ -7,7 +7,7 @@ ghost use lib.ListN.{length, set};
 ghost use Rattle.text.specs.Lists.{listedAs, ListedInto, entryAt, HeldList};
 use crate::numbers::Entry;
 use crate::numbers::number_at;
-use crate::parts::is_dash;
+use parts::is_dash;
 
 // What is known of a list: whether it is well written; and if it is, how many entries it has, the largest (0 if there is none),
 // and whether they rise strictly. Of a badly written list all is 0 and false.

@@ -4,7 +4,7 @@ ghost use Prim.Native.Nat.{_≤_};
 ghost use lib.ListN.{length};
 ghost use Rattle.format.specs.Text.{isDigit};
 ghost use Rattle.text.specs.Numbers.{NumberRead, PrincipalRead, numberAt};
-use crate::parts::is_dash;
+use parts::is_dash;
 
 // A number is at most 99,999, so that a value never wraps.
 pub enum Number {

@@ -4,10 +4,10 @@ ghost use mathlib.Core.Path.{_≡_};
 ghost use mathlib.Core.List.{[]};
 ghost use lib.ListN.{getD};
 ghost use Rattle.format.specs.Text.{fieldsOf};
+use keywords::Kind;
 use libc::STDOUT_FILENO;
 use text::numbers::Number;
 use text::numbers::Optional;
-use text::words::Kind;
 
 fn put(bytes: &[u8]) {
     io::write_all(STDOUT_FILENO, bytes);

@@ -17,22 +17,9 @@ use Rattle.format.proofs.Formulas.{known-earlier}
 use Rattle.format.proofs.Decoded.{in-decoded, decoded-in, number-on}
 use Rattle.atomset.specs.AtomSet.{has, Member}
 use Rattle.tables.specs.Holding.{Formulas, Sided}
+use Rattle.shapes.specs.Shapes.{Shows, shows-falsum, shows-atom, shows-verum, shows-negated, shows-doubled, shows-conjunction, shows-disjunction, shows-other}
 use Rattle.shapes.specs.declared.Shape.{Shape}
-use Rattle.shapes.proofs.Shown.{
-  Shows,
-  shows-falsum,
-  shows-atom,
-  shows-verum,
-  shows-negated,
-  shows-doubled,
-  shows-conjunction,
-  shows-disjunction,
-  shows-other,
-  negated-shown,
-  doubled-shown,
-  shown,
-  number-shown,
-}
+use Rattle.shapes.proofs.Shown.{negated-shown, doubled-shown, shown, number-shown}
 use Rattle.unstable.specs.Fixing.{fixesAtom, FixedBy, Fixes}
 use Rattle.unstable.proofs.ChoiceSets.{Fixing, fixed-iff}
 

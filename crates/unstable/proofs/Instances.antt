@@ -24,7 +24,7 @@ use Rattle.atomset.proofs.Rising.{rising-unique}
 use Rattle.atomset.proofs.Members.{members-rising, member-members, members-unique}
 use Rattle.atomset.proofs.SetOf.{member-setOf, setOf-lt}
 use Rattle.tables.specs.Holding.{Formulas, Sided}
-use Rattle.tables.specs.Known.{AtomWords}
+use Rattle.known.specs.Known.{AtomWords}
 use Rattle.sides.proofs.Sets.{any-iff}
 use Rattle.unstable.specs.Joins.{middlesIn}
 use Rattle.unstable.specs.Fixing.{Fixes}

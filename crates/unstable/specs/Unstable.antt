@@ -16,7 +16,7 @@ use Rattle.format.specs.Text.{any}
 use Rattle.format.specs.File.{Body, decoded}
 use Rattle.atomset.specs.AtomSet.{has, Member, members}
 use Rattle.tables.specs.Holding.{Formulas, Sided}
-use Rattle.tables.specs.Known.{AtomWords}
+use Rattle.known.specs.Known.{AtomWords}
 use Rattle.sides.specs.Members.{AllRise}
 use Rattle.sides.specs.Deciding.{Decides, DecidesIf}
 use Rattle.unstable.specs.Joins.{choiceIn, middlesIn}

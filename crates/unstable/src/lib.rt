@@ -13,8 +13,8 @@ use atomset::union;
 use fixing::fixes;
 use joins::choice_by;
 use joins::joins_middles;
+use known::index::word;
 use sides::members::same;
-use tables::index::word;
 use tables::records::wide;
 
 // The atoms of the formulas of a side.

@@ -5,8 +5,8 @@ use borrow.Author.Needs.{needs}
 use mathlib.Core.Path.{_≡_, refl, sym, subst, _∙_}
 use lib.ListN.{length}
 use Rattle.format.specs.Text.{lineFeed}
-use Rattle.text.specs.Parts.{nextAt}
-use Rattle.text.proofs.PartLaws.{next-bounds}
+use Rattle.parts.specs.Parts.{nextAt}
+use Rattle.parts.proofs.PartLaws.{next-bounds}
 use Rattle.lines.specs.State.{tables}
 use Rattle.lines.specs.declared.state.State.{State}
 use Rattle.judge.specs.Running.{Running}

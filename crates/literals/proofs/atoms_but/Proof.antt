@@ -61,7 +61,7 @@ returns c =
     let start = turn .before .before .before in
     sym (turn .loop .inv
     ∙ fails (start .args .formulas .now) (start .args .p) (start .args .side .now) (turn .loop .i) (search needs) (c .before .atom-but .ensures)
-    (at-shape .shape-of .ensures) (not-true _ (c .if1 .taken)))
+    (at-shape .shape-of .ensures .answer) (not-true _ (c .if1 .taken)))
 
 add-i : tie.Need-add-i Inv-loop μ-loop
 add-i c = search needs
@@ -76,7 +76,7 @@ loop-again c =
     let start = turn .before .before .before in
     turn .loop .inv
     ∙ goes-on (start .args .formulas .now) (start .args .p) (start .args .side .now) (turn .loop .i) (search needs) (c .before .atom-but .ensures)
-    (at-shape .shape-of .ensures) (not-false _ (c .if1 .left))
+    (at-shape .shape-of .ensures .answer) (not-false _ (c .if1 .left))
 
 returns-2 : tie.Need-returns-2 Inv-loop μ-loop
 returns-2 c =

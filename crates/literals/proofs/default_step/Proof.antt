@@ -62,7 +62,7 @@ atoms-but-requires c κs = search needs
 returns : tie.Need-returns
 returns c =
     let at-arm = c .before .before .before in
-    not-atoms _ _ _ _ (at-arm .before .before .shape-of .ensures) (at-arm .s .given .1) (c .before .atoms-but .ensures) (not-true _ (c .if1 .taken))
+    not-atoms _ _ _ _ (at-arm .before .before .shape-of .ensures .answer) (at-arm .s .given .1) (c .before .atoms-but .ensures) (not-true _ (c .if1 .taken))
 
 contains-requires : tie.Need-contains-requires
 contains-requires c κs = search needs
@@ -71,13 +71,13 @@ returns-2 : tie.Need-returns-2
 returns-2 c =
     let at-atoms = c .before .before in
     let at-arm = at-atoms .before .before in
-    only-atoms _ _ _ _ (at-arm .before .before .shape-of .ensures) (at-arm .s .given .1) (at-atoms .atoms-but .ensures)
+    only-atoms _ _ _ _ (at-arm .before .before .shape-of .ensures .answer) (at-arm .s .given .1) (at-atoms .atoms-but .ensures)
     (not-false _ (c .before .if1 .left)) (c .contains .ensures)
 
 returns-3 : tie.Need-returns-3
 returns-3 c =
     let at-shape = c .before in
-    other-principal _ _ _ _ (at-shape .shape-of .ensures)
+    other-principal _ _ _ _ (at-shape .shape-of .ensures .answer)
     (not-negated _ _ _ _ (at-shape .shape-of .result) (not-tag (0 ∷ 1 ∷ 2 ∷ 4 ∷ 5 ∷ 6 ∷ 7 ∷ []) 3 refl (c .match .keys2)))
 
 pub default-step-spec : {M : Type 1} → statement M

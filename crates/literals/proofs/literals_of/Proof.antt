@@ -91,7 +91,7 @@ loop-less : tie.Need-loop-less Inv-loop μ-loop
 loop-less c = search needs
 
 loop-again : tie.Need-loop-again Inv-loop μ-loop
-loop-again c = goes-on (search needs) (c .before .before .before .before .loop .inv) (c .before .shape-of .ensures) (c .with-literal .ensures)
+loop-again c = goes-on (search needs) (c .before .before .before .before .loop .inv) (c .before .shape-of .ensures .answer) (c .with-literal .ensures)
 
 returns : tie.Need-returns Inv-loop μ-loop
 returns c = ends (search needs) (c .before .loop .inv)

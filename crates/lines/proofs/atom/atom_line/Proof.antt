@@ -8,9 +8,9 @@ use lib.Dec.{lit<}
 use lib.ListN.{length, getD}
 use Rattle.format.specs.Text.{Bytes, fieldsOf, numberOf}
 use Rattle.text.specs.Numbers.{numberAs, NumberRead}
-use Rattle.text.specs.Parts.{Fielded, FieldPart}
+use Rattle.parts.specs.Parts.{Fielded, FieldPart}
 use Rattle.text.specs.declared.numbers.Number.{Number}
-use Rattle.text.specs.declared.parts.Fields.{Fields}
+use Rattle.parts.specs.declared.Fields.{Fields}
 use Rattle.lines.proofs.AtomLines.{
   atom-miscounted,
   atom-unnumbered,

@@ -9,7 +9,7 @@ use lib.ListN.{length, getD, take, drop}
 use lib.Seq.{drop-cons}
 use Rattle.format.specs.Tables.{nameWidth}
 use Rattle.tables.specs.Names.{spelledBy, foundAs}
-use Rattle.tables.proofs.Turns.{Passed, start, next, found, ended}
+use Rattle.tables.proofs.Turns.{Passed, start, next, found, ended, name-looked}
 use Rattle.tables.proofs.names.find_name.Statement.{statement}
 use Rattle.tables.proofs.names.find_name.Tie as tie
 
@@ -55,7 +55,7 @@ spells-requires c κs = search needs
 returns : tie.Need-returns Inv-loop μ-loop
 returns c =
     let loop = c .before .before .before .before .before .loop in
-    sym (ap foundAs (found _ _ _ _ (loop .inv) (omega arith) (omega arith)
+    name-looked _ _ _ (ap foundAs (found _ _ _ _ (loop .inv) (omega arith) (omega arith)
     (ap (spelledBy _ _) (two _ (nameWidth * loop .i) (omega arith)) ∙ sym (c .before .spells .ensures) ∙ c .if1 .taken)))
 
 add-i : tie.Need-add-i Inv-loop μ-loop
@@ -71,7 +71,7 @@ loop-again c =
     (ap (spelledBy _ _) (two _ (nameWidth * loop .i) (omega arith)) ∙ sym (c .before .spells .ensures) ∙ c .if1 .left)
 
 returns-2 : tie.Need-returns-2 Inv-loop μ-loop
-returns-2 c = sym (ap foundAs (ended _ _ _ _ (c .before .loop .inv) (λ l. omega arith)))
+returns-2 c = name-looked _ _ _ (ap foundAs (ended _ _ _ _ (c .before .loop .inv) (λ l. omega arith)))
 
 pub find-name-spec : {M : Type 1} → statement M
 find-name-spec =

@@ -30,7 +30,7 @@ returns c = λ i.
     let at-arm = c .before .before in
     let at-shape = at-arm .before .before in
     let start = at-shape .before .before in
-    let is-doubled = sym (at-shape .shape-of .ensures) ∙ at-arm .s .given .1 in
+    let is-doubled = sym (at-shape .shape-of .ensures .answer) ∙ at-arm .s .given .1 in
     c .only .ensures i ∙ sym (ap (fixesAtom (start .args .set) (start .args .others) i) is-doubled)
 
 returns-2 : tie.Need-returns-2
@@ -38,7 +38,7 @@ returns-2 c = λ i.
     let at-arm = c .before .before in
     let at-shape = at-arm .before .before in
     let start = at-shape .before .before in
-    let is-negated = sym (at-shape .shape-of .ensures) ∙ at-arm .s2 .given .1 in
+    let is-negated = sym (at-shape .shape-of .ensures .answer) ∙ at-arm .s2 .given .1 in
     c .only2 .ensures i ∙ sym (ap (fixesAtom (start .args .set) (start .args .others) i) is-negated)
 
 returns-3 : tie.Need-returns-3
@@ -48,7 +48,7 @@ returns-3 c = λ i.
     let rest : List ℕ = 0 ∷ 1 ∷ 2 ∷ 5 ∷ 6 ∷ 7 ∷ [] in
     let key = c .match .keys3 in
     has-zero i
-    ∙ sym (ap (fixesAtom (start .args .set) (start .args .others) i) (sym (at-shape .shape-of .ensures))
+    ∙ sym (ap (fixesAtom (start .args .set) (start .args .others) i) (sym (at-shape .shape-of .ensures .answer))
     ∙ fixes-none _ _ i (at-shape .shape-of .result) (not-tag rest 3 refl key) (not-tag rest 4 refl key))
 
 pub fixed-by-spec : {M : Type 1} → statement M

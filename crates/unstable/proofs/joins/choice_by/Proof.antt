@@ -50,7 +50,7 @@ returns c =
     let turn = at-shape .before .before .before in
     let none-there = no-conjuncts (at-shape .shape-of .result) (not-tag (0 ∷ 1 ∷ 2 ∷ 3 ∷ 4 ∷ 6 ∷ 7 ∷ []) 5 refl (c .match .keys2)) in
     reading-no-conjunction (turn .loop .inv) (at-shape .before .before .is-empty .ensures) (at-shape .before .if1 .taken)
-    (ap conjuncts (sym (at-shape .shape-of .ensures)) ∙ none-there)
+    (ap conjuncts (sym (at-shape .shape-of .ensures .answer)) ∙ none-there)
 
 sign-in-requires : tie.Need-sign-in-requires Inv-loop μ-loop
 sign-in-requires c κs = search needs
@@ -60,7 +60,7 @@ returns-2 c =
     let at-arm = c .before .before .before in
     let at-shape = at-arm .before .before in
     let turn = at-shape .before .before .before in
-    let is-both = sym (at-shape .shape-of .ensures) ∙ at-arm .s .given .1 in
+    let is-both = sym (at-shape .shape-of .ensures .answer) ∙ at-arm .s .given .1 in
     reading-unsigned (turn .loop .inv) (at-shape .before .before .is-empty .ensures) (at-shape .before .if1 .taken) is-both
     (c .before .sign-in .ensures) (c .if2 .taken)
 
@@ -85,7 +85,7 @@ loop-again c =
     let at-arm = at-sign .before .before in
     let at-shape = at-arm .before .before in
     let turn = at-shape .before .before .before in
-    let is-both = sym (at-shape .shape-of .ensures) ∙ at-arm .s .given .1 in
+    let is-both = sym (at-shape .shape-of .ensures .answer) ∙ at-arm .s .given .1 in
     reading-next (turn .loop .inv) (at-shape .before .before .is-empty .ensures) (at-shape .before .if1 .taken) is-both (at-sign .sign-in .ensures)
     _ _ _ (c .before .before .before .if2 .left) (c .before .before .with-sign .ensures) (c .before .first2 .ensures) (c .without-first2 .ensures)
 

@@ -19,7 +19,7 @@ returns : tie.Need-returns
 returns c =
     let at-shape = c .before in
     let none-there = no-disjuncts (at-shape .shape-of .result) (not-tag (0 ∷ 1 ∷ 2 ∷ 3 ∷ 4 ∷ 5 ∷ 7 ∷ []) 6 refl (c .match .keys2)) in
-    sym (middle-none _ _ _ (ap disjuncts (sym (at-shape .shape-of .ensures)) ∙ none-there))
+    sym (middle-none _ _ _ (ap disjuncts (sym (at-shape .shape-of .ensures .answer)) ∙ none-there))
 
 sign-in-requires : tie.Need-sign-in-requires
 sign-in-requires c κs = search needs
@@ -27,7 +27,7 @@ sign-in-requires c κs = search needs
 returns-2 : tie.Need-returns-2
 returns-2 c =
     let at-arm = c .before .before .before in
-    let is-either = sym (at-arm .before .before .shape-of .ensures) ∙ at-arm .s .given .1 in
+    let is-either = sym (at-arm .before .before .shape-of .ensures .answer) ∙ at-arm .s .given .1 in
     sym (middle-fails _ _ _ is-either (c .before .sign-in .ensures) (c .if1 .taken))
 
 sign-in-requires-2 : tie.Need-sign-in-requires-2
@@ -37,7 +37,7 @@ returns-3 : tie.Need-returns-3
 returns-3 c =
     let at-sign = c .before .before in
     let at-arm = at-sign .before .before in
-    let is-either = sym (at-arm .before .before .shape-of .ensures) ∙ at-arm .s .given .1 in
+    let is-either = sym (at-arm .before .before .shape-of .ensures .answer) ∙ at-arm .s .given .1 in
     sym (middle-by _ _ _ is-either (at-sign .sign-in .ensures) (c .before .if1 .left) (c .sign-in2 .ensures))
 
 pub excluded-middle-spec : {M : Type 1} → statement M

@@ -46,7 +46,7 @@ returns c =
     let none-there = no-conjuncts (at-shape .shape-of .result) (not-tag (0 ∷ 1 ∷ 2 ∷ 3 ∷ 4 ∷ 6 ∷ 7 ∷ []) 5 refl (c .match .keys2)) in
     sym (turn .loop .inv
     ∙ middles-stop _ _ _ _ (at-shape .before .before .is-empty .ensures) (at-shape .before .if1 .taken)
-    (ap conjuncts (sym (at-shape .shape-of .ensures)) ∙ none-there))
+    (ap conjuncts (sym (at-shape .shape-of .ensures .answer)) ∙ none-there))
 
 excluded-middle-requires : tie.Need-excluded-middle-requires Inv-loop μ-loop
 excluded-middle-requires c κs = search needs
@@ -56,7 +56,7 @@ returns-2 c =
     let at-arm = c .before .before .before in
     let at-shape = at-arm .before .before in
     let turn = at-shape .before .before .before in
-    let is-both = sym (at-shape .shape-of .ensures) ∙ at-arm .s .given .1 in
+    let is-both = sym (at-shape .shape-of .ensures .answer) ∙ at-arm .s .given .1 in
     sym (turn .loop .inv
     ∙ middles-fail _ _ _ _ (at-shape .before .before .is-empty .ensures) (at-shape .before .if1 .taken) is-both (c .before .excluded-middle .ensures)
     (not-true _ (c .if2 .taken)))
@@ -79,7 +79,7 @@ loop-again c =
     let at-arm = at-middle .before .before in
     let at-shape = at-arm .before .before in
     let turn = at-shape .before .before .before in
-    let is-both = sym (at-shape .shape-of .ensures) ∙ at-arm .s .given .1 in
+    let is-both = sym (at-shape .shape-of .ensures .answer) ∙ at-arm .s .given .1 in
     turn .loop .inv
     ∙ middles-next _ _ _ _ (at-shape .before .before .is-empty .ensures) (at-shape .before .if1 .taken) is-both (at-middle .excluded-middle .ensures) _ _
     (not-false _ (c .before .before .if2 .left)) (c .before .first2 .ensures) (c .without-first2 .ensures)

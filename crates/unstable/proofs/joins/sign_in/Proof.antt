@@ -13,7 +13,7 @@ sign-of-requires : tie.Need-sign-of-requires
 sign-of-requires c κs = search needs
 
 returns : tie.Need-returns
-returns c = c .sign-of .ensures ∙ ap (λ (s : Shape). signOf s (c .before .before .before .args .p)) (c .before .shape-of .ensures)
+returns c = c .sign-of .ensures ∙ ap (λ (s : Shape). signOf s (c .before .before .before .args .p)) (c .before .shape-of .ensures .answer)
 
 pub sign-in-spec : {M : Type 1} → statement M
 sign-in-spec = tie.close (tie.spec shape-of-requires sign-of-requires returns)

@@ -1,7 +1,7 @@
 -- `lines::state::State::start` meets its contract. Assumes nothing.
 use mathlib.Core.Path.{ap}
 use borrow.Author.Needs.{needs}
-use Rattle.tables.specs.declared.counts.Counts.{Counts}
+use Rattle.counts.specs.declared.Counts.{Counts}
 use Rattle.lines.proofs.state.State.start.Statement.{statement}
 use Rattle.lines.proofs.state.State.start.Tie as tie
 

@@ -1,0 +1,52 @@
+-- The number that entering a formula stands for, where the table holds formulas with their index. Assumes nothing.
+use Prim.Native.Nat.{ℕ, zero, suc, _<_}
+use native.Mathlib.Omega.{arith}
+use mathlib.Core.Bool.{Bool, true, false, _||_, or-true}
+use mathlib.Core.List.{List, [], _∷_}
+use mathlib.Core.Option.{Option, some}
+use mathlib.Core.Path.{_≡_, refl, sym, ap, ap₂, _∙_}
+use borrow.Author.Tests.{le-leb, lt-leb}
+use lib.Dec.{leb}
+use lib.ListN.{length, getD}
+use Rattle.format.specs.Text.{any, sameList}
+use Rattle.format.specs.File.{Node}
+use Rattle.format.specs.Tables.{nodeRecord, mostFormulas}
+use Rattle.format.specs.Tests.{_when_, first}
+use Rattle.format.proofs.Booleans.{list-same}
+use Rattle.tables.specs.Records.{nodeNumbers}
+use Rattle.tables.specs.Holding.{HoldsNodes}
+use Rattle.tables.specs.declared.records.NodeRecord.{NodeRecord}
+use Rattle.known.specs.Index.{Indexed, NodeFound}
+use Rattle.known.specs.Entering.{entryRefusal, Enters, FormulaEntered, full, held, new}
+use Rattle.known.specs.declared.Entry.{Entry}
+use Rattle.known.proofs.Indexing.{record-there}
+
+any-at : {A : Type 0} (test : A → Bool) (xs : List A) (i : ℕ) (d : A) → i < length xs → test (getD xs i d) ≡ true → any test xs ≡ true
+any-at test [] i d h e = absurd (omega arith)
+any-at test (x ∷ xs) zero d h e = ap (λ (b : Bool). b || any test xs) e
+any-at test (x ∷ xs) (suc i) d h e = ap (λ (b : Bool). test x || b) (any-at test xs i d (omega arith) e) ∙ or-true (test x)
+
+-- the formula of a record is held
+abbrev again : List Node → NodeRecord → Bool
+again nodes key = any (λ m. sameList (nodeRecord m) (nodeNumbers key)) nodes
+
+abbrev number : Bool → Bool → Option ℕ
+number over same = first ((5 when over) ∷ (8 when same) ∷ [])
+
+module _ {formulas words : List ℕ} (nodes : List Node) (holds : HoldsNodes nodes formulas) (index : Indexed nodes words) where
+  found-again : (key : NodeRecord) (i : ℕ) → NodeFound formulas words (nodeNumbers key) (some i) → again nodes key ≡ true
+  found-again key i found =
+      let inside = found .within nodes holds index i refl in
+      let same : nodeRecord (getD nodes i Node.bot) ≡ nodeNumbers key = sym (record-there holds i inside) ∙ found .there i refl in
+      any-at (λ m. sameList (nodeRecord m) (nodeNumbers key)) nodes i Node.bot inside
+      (ap (λ (l : List ℕ). sameList l (nodeNumbers key)) same ∙ list-same (nodeNumbers key))
+
+  refusal-is : {count : ℕ} {key : NodeRecord} {formulas′ words′ : List ℕ} {r : Entry} → Enters formulas words count key formulas′ words′ r
+      → entryRefusal r ≡ number (leb mostFormulas count) (again nodes key)
+  refusal-is {key} (full most f w) = sym (ap (λ (b : Bool). number b (again nodes key)) (le-leb _ _ most))
+  refusal-is {key} (held i few found f w) = sym (ap₂ number (lt-leb _ _ few) (found-again key i found))
+  refusal-is (new few found more) = sym (ap₂ number (lt-leb _ _ few) (found .missing nodes holds index refl))
+
+pub formula-entered : {formulas words : List ℕ} {count : ℕ} {key : NodeRecord} {formulas′ words′ : List ℕ} {r : Entry}
+    → Enters formulas words count key formulas′ words′ r → FormulaEntered formulas words count key formulas′ words′ r
+formula-entered entry = record { entry = entry; refusal = λ nodes holds index. refusal-is nodes holds index entry }

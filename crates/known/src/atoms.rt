@@ -1,0 +1,47 @@
+// The atoms that occur in a formula as one word, out of the words of the formulas before it.
+ghost use mathlib.Core.Path.{_≡_};
+ghost use Prim.Native.Nat.{ℕ};
+ghost use lib.ListN.{getD};
+ghost use Rattle.atomset.specs.AtomSet.{has};
+ghost use Rattle.known.specs.Known.{occursBy};
+use crate::index::word;
+use atomset::single;
+use atomset::union;
+use tables::records::NodeRecord;
+use tables::records::wide;
+
+// The words of formulas with operands; between AND and IMP they have two.
+const ATOM: u16 = 1;
+
+const NOT: u16 = 2;
+
+const AND: u16 = 3;
+
+const IMP: u16 = 5;
+
+// The atoms of an earlier formula, none where there is no such formula.
+fn word_at(words: &[u64], i: u16) -> u64
+    ensures { λ r. ⌜ r ≡ getD (now (words .entry)) i 0 ⌝ }
+{
+    word(words, wide(i))
+}
+
+// The atoms of the formula with this record.
+pub(crate) fn record_atoms(words: &[u64], key: NodeRecord) -> u64
+    ensures { λ r. ⌜ ((p : ℕ) → has r p ≡ occursBy (now (words .entry)) key p) ⌝ }
+{
+    let operator = key.word;
+    if operator == ATOM {
+        return single(wide(key.first));
+    }
+    if operator == NOT {
+        return word_at(words, key.first);
+    }
+    if operator < AND {
+        return 0;
+    }
+    if operator > IMP {
+        return 0;
+    }
+    union(word_at(words, key.first), word_at(words, key.second))
+}

@@ -1,0 +1,45 @@
+// The one door by which a formula enters the tables: an equal one is found, or it is appended with what is known of it.
+mod atoms;
+pub mod index;
+
+ghost use Rattle.known.specs.Entering.{FormulaEntered};
+use crate::atoms::record_atoms;
+use crate::index::Located;
+use crate::index::enter_node;
+use crate::index::find_node;
+use crate::index::put_word;
+use counts::limits::MOST_FORMULAS;
+use tables::records::NodeRecord;
+use tables::records::put_node;
+
+// An equal formula is held under this number, the formula is new under this number, or there is no room for it.
+pub enum Entry {
+    Held(usize),
+    New(usize),
+    Full,
+}
+
+// Enters a formula into tables that hold `count` of them.
+pub fn enter_formula(
+    formulas: &mut [u16],
+    words: &mut [u64],
+    count: usize,
+    key: NodeRecord,
+) -> Entry
+    ensures { λ r. ⌜ FormulaEntered (now (formulas .entry)) (now (words .entry)) count key (now (formulas .exit)) (now (words .exit)) r ⌝ }
+{
+    if MOST_FORMULAS <= count {
+        return Entry::Full;
+    }
+    let found = find_node(formulas, words, key);
+    match found {
+        Located::At(i) => {
+            return Entry::Held(i);
+        }
+        Located::Nowhere => {}
+    }
+    put_node(formulas, count, key);
+    put_word(words, count, record_atoms(words, key));
+    enter_node(words, count, key);
+    Entry::New(count)
+}
