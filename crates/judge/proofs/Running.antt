@@ -5,9 +5,8 @@ use native.Mathlib.Nat.{sub-zero}
 use native.Mathlib.Omega.{arith}
 use mathlib.Core.Path.{_≡_, refl, sym, ap, ap₂, subst, _∙_}
 use mathlib.Core.List.{List, [], _∷_, _++_, List·Memᴰ·not-nil}
-use mathlib.Core.Logic.{_⊎_, inl, inr}
 use mathlib.Core.Option.{Option}
-use lib.ListN.{length, getD, take, drop, replicate, length-take, length-drop, drop-of-length-le}
+use lib.ListN.{length, getD, drop, replicate, length-take, length-drop, drop-of-length-le}
 use lib.Seq.{drop-cons}
 use Rattle.format.specs.Text.{Bytes, partsAt, lineFeed}
 use Rattle.format.specs.File.{Claim, Stage, in-atoms, in-formulas, in-rows, claimed, File, noFile}
@@ -20,13 +19,12 @@ use Rattle.format.proofs.Beginnings.{step-good, good-start}
 use Rattle.parts.specs.Parts.{nextAt, between}
 use Rattle.parts.proofs.PartLaws.{next-bounds, next-part, last-part}
 use Rattle.known.proofs.Indexing.{index-none}
-use Rattle.lines.specs.State.{Memory, Full, Steps, start, claimLine}
+use Rattle.state.specs.State.{Memory, Full, Steps, start, claimLine}
 use Rattle.lines.specs.Stepping.{LineStepped}
-use Rattle.lines.specs.declared.state.State.{State}
-use Rattle.lines.specs.declared.state.Stepped.{Stepped}
+use Rattle.state.specs.declared.State.{State}
+use Rattle.state.specs.declared.Stepped.{Stepped}
 use Rattle.judge.specs.Contract.{five, Accepts, Refuses, Zeros}
 use Rattle.judge.specs.Running.{place, Running, Runs}
-use Rattle.judge.specs.declared.Answer.{Answer}
 use Rattle.judge.specs.declared.Ran.{Ran}
 
 -- before the first line, in clear tables

@@ -1,7 +1,7 @@
 -- The whole answer: by the lengths of the tables and the text, and then by the run over its lines.
 use Prim.Native.Nat.{ℕ, _*_, _≤_, _<_}
 use native.Mathlib.Nat.{sub-zero}
-use mathlib.Core.Path.{_≡_, refl, sym, ap, ap₂, _∙_}
+use mathlib.Core.Path.{_≡_, sym, ap, ap₂, _∙_}
 use mathlib.Core.Bool.{Bool, true, false, _||_}
 use mathlib.Core.List.{List, [], _∷_}
 use mathlib.Core.Logic.{_⊎_, inl, inr, ⊎-elim}
@@ -17,7 +17,7 @@ use Rattle.format.specs.Judged.{Ruling, accepted, turnedDown, numberIn, lineIn,
 use Rattle.format.proofs.Booleans.{or-false}
 use Rattle.format.proofs.Stepping.{first-applies, first-passes}
 use Rattle.format.proofs.Accepted.{accepted-holds}
-use Rattle.lines.specs.State.{Full, Memory}
+use Rattle.state.specs.State.{Full, Memory}
 use Rattle.judge.specs.Contract.{five, lengths, filled, clear, Judges, Accepts, Refuses, Zeros}
 use Rattle.judge.specs.declared.Answer.{Answer}
 

@@ -9,8 +9,8 @@ use Rattle.format.specs.File.{File, noFile}
 use Rattle.format.specs.Judged.{Place, top, beginning, turnedDown, runFrom, answerFrom}
 use Rattle.format.specs.Good.{Good}
 use Rattle.parts.specs.Parts.{nextAt}
-use Rattle.lines.specs.State.{Memory, Stored}
-use Rattle.lines.specs.declared.state.State.{State}
+use Rattle.state.specs.State.{Memory, Stored}
+use Rattle.state.specs.declared.State.{State}
 use Rattle.judge.specs.declared.Ran.{Ran}
 
 abbrev pub place : ℕ → ℕ → Place

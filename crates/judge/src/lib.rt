@@ -6,7 +6,7 @@ ghost use mathlib.Core.Logic.{_⊎_};
 ghost use Prim.Native.Nat.{_≤_};
 ghost use lib.ListN.{length, replicate};
 ghost use Rattle.format.specs.Tables.{tooShort, mostBytes};
-ghost use Rattle.lines.specs.State.{Memory, Full, tables};
+ghost use Rattle.state.specs.State.{Memory, Full, tables};
 ghost use Rattle.judge.specs.Contract.{five, lengths, Judges, Checks, Accepts, Refuses, Zeros};
 ghost use Rattle.judge.specs.Running.{Runs};
 use counts::limits::MOST_ATOMS;
@@ -17,11 +17,11 @@ use counts::limits::MOST_ROWS;
 use counts::limits::NAME_WIDTH;
 use counts::limits::NODE_WIDTH;
 use counts::limits::ROW_WIDTH;
-use lines::state::CLAIMED;
-use lines::state::State;
 use lines::step_line;
 use parts::find;
 use parts::refusals::BAD_LINE;
+use state::CLAIMED;
+use state::State;
 use tables::clear;
 
 // Refusal number and line; number 0 is acceptance, with the line of the claim.

@@ -27,34 +27,20 @@ use Rattle.text.specs.declared.numbers.Number.{Number}
 use Rattle.parts.specs.declared.Fields.{Fields}
 use Rattle.counts.specs.Counts as counting
 use Rattle.tables.specs.Holding.{Begins}
-use Rattle.tables.specs.Names.{firstRecords, spelledBy, placeFrom, placeOf, foundAs, StandsIn}
+use Rattle.tables.specs.Names.{firstRecords, spelledBy, nameRefusal, NameFound, StandsIn}
 use Rattle.tables.specs.Records.{written}
 use Rattle.counts.specs.declared.Counts.{Counts}
-use Rattle.tables.specs.declared.found.Found.{Found}
+use Rattle.tables.specs.declared.names.Found.{Found}
 use Rattle.counts.proofs.Counting.{counts-atom}
-use Rattle.tables.proofs.Encoded.{begins-padded, names-length, name-found}
+use Rattle.tables.proofs.Encoded.{begins-padded, names-length, name-held}
 use Rattle.rows.specs.Early.{numbered}
-use Rattle.lines.specs.State.{refusedBy, passedBy, notNext, Memory, Exactly, Stored}
-use Rattle.lines.specs.Lined.{OfKind}
+use Rattle.state.specs.State.{refusedBy, passedBy, notNext, Memory, Exactly, Stored}
+use Rattle.state.specs.Lined.{OfKind}
 use Rattle.lines.specs.AtomLines.{AtomNumbered, AtomLined, withNames}
-use Rattle.lines.specs.declared.state.State.{State}
-use Rattle.lines.specs.declared.state.Stepped.{Stepped}
-use Rattle.lines.proofs.LineLaws.{
-  atomWritten,
-  line-atom,
-  line-no-atom,
-  number-value,
-  number-bad,
-  order-same,
-  number-given,
-  none-given,
-  keeps-passed,
-  steps-next,
-  line-refused,
-  line-bad,
-  written-length,
-  put-exactly,
-}
+use Rattle.state.specs.declared.State.{State}
+use Rattle.state.specs.declared.Stepped.{Stepped}
+use Rattle.lines.proofs.LineLaws.{atomWritten, line-atom, line-no-atom, number-value, number-bad, number-given, none-given, keeps-passed, steps-next, line-refused, line-bad, written-length, put-exactly}
+use Rattle.state.proofs.Order.{order-same}
 
 -- ---- the fields
 
@@ -81,48 +67,43 @@ module _ (line : Bytes) (fields : Fields) (fielded : Fielded line fields) (kind 
 
 -- ---- the number that an atom earns
 
-abbrev isAt : Found → Bool
-isAt (Found.At i) = true
-isAt Found.Nowhere = false
+-- the name is one of those that are held, by their records
+abbrev used : Bytes → List ℕ → State → Bytes → Bool
+used text names s name = any (spelledBy text name) (firstRecords nameWidth (s .counts .atoms) names)
 
--- where a name is looked for
-abbrev lookedFor : Bytes → List ℕ → State → Bytes → Found
-lookedFor text names s name = foundAs (placeOf (spelledBy text name) (firstRecords nameWidth (s .counts .atoms) names))
+abbrev sixIf : Bool → Option ℕ
+sixIf b = cond b (some 6) none
+
+six-told : (a b : Bool) → sixIf a ≡ sixIf b → a ≡ b
+six-told true true e = refl
+six-told false false e = refl
+six-told true false e = let z : _≡_ {A = ℕ} 0 1 = cc in absurd (omega arith)
+six-told false true e = let z : _≡_ {A = ℕ} 0 1 = cc in absurd (omega arith)
 
 -- the tests of an atom, by the state and the names table
 abbrev atomOf : Bytes → List ℕ → State → ℕ → Bytes → List Test
 atomOf text names s n name =
     (4 when notNext (s .stage) 0 (s .counts .atoms) n)
     ∷ (5 when leb mostAtoms (s .counts .atoms))
-    ∷ (6 when not (isName name) || isAt (lookedFor text names s name))
+    ∷ (6 when not (isName name) || used text names s name)
     ∷ []
-
-any-place : {A : Type 0} (test : A → Bool) (k : ℕ) (xs : List A) → isAt (foundAs (placeFrom k test xs)) ≡ any test xs
-any-place test k [] = refl
-any-place test k (x ∷ xs) = by-test (test x) (any-place test (suc k) xs)
-  where
-    by-test : (b : Bool) → isAt (foundAs (placeFrom (suc k) test xs)) ≡ any test xs
-        → isAt (foundAs (cond b (some k) (placeFrom (suc k) test xs))) ≡ b || any test xs
-    by-test true e = refl
-    by-test false e = e
 
 module _ (text : Bytes) (names : List ℕ) (s : State) (n : ℕ) (name : Bytes) where
   tests-same : (f : File) → s .counts .atoms ≡ f .body .atoms → length (f .names) ≡ f .body .atoms → s .stage ≡ rank (f .stage)
       → ((m : Name) → m ∈ f .names → StandsIn text m) → Begins (joinAll nameRecord (f .names)) names
       → atomOf text names s n name ≡ atomTests f n name
   tests-same f atoms many stage stands held =
-      ap₂ (λ (a b : Bool). (4 when a) ∷ (5 when b) ∷ (6 when not (isName name) || isAt (lookedFor text names s name)) ∷ [])
+      ap₂ (λ (a b : Bool). (4 when a) ∷ (5 when b) ∷ (6 when not (isName name) || used text names s name) ∷ [])
       (order-same (f .stage) in-atoms (f .body .atoms) n stage atoms) (ap (leb mostAtoms) atoms)
       ∙ ap
       (λ (b : Bool). (4 when outOfOrder (f .stage) in-atoms (f .body .atoms) n) ∷ (5 when leb mostAtoms (f .body .atoms))
       ∷ (6 when not (isName name) || b) ∷ [])
-      used
+      used-same
     where
-      used : isAt (lookedFor text names s name) ≡ any (λ (m : Name). sameList (m .name) name) (f .names)
-      used =
-          ap (λ (k : ℕ). isAt (foundAs (placeOf (spelledBy text name) (firstRecords nameWidth k names)))) (atoms ∙ sym many)
-          ∙ ap (λ (o : Option ℕ). isAt (foundAs o)) (name-found text (f .names) names name stands held)
-          ∙ any-place (λ (m : Name). sameList (m .name) name) 0 (f .names)
+      used-same : used text names s name ≡ any (λ (m : Name). sameList (m .name) name) (f .names)
+      used-same =
+          ap (λ (k : ℕ). any (spelledBy text name) (firstRecords nameWidth k names)) (atoms ∙ sym many)
+          ∙ name-held text (f .names) names name stands held
 
   numbered-atom : (k : ℕ) → numbered k ≡ first (atomOf text names s n name) → AtomNumbered text names s n name k
   numbered-atom k e =
@@ -142,7 +123,7 @@ module _ (text : Bytes) (names : List ℕ) (s : State) (n : ℕ) (name : Bytes) 
   full = leb mostAtoms (s .counts .atoms)
 
   abbrev bad : Bool
-  bad = not (isName name) || isAt (lookedFor text names s name)
+  bad = not (isName name) || used text names s name
 
   pub atom-out : out ≡ true → AtomNumbered text names s n name 4
   atom-out e = numbered-atom 4 (sym (first-applies (4 when out) ((5 when full) ∷ (6 when bad) ∷ []) e))
@@ -154,21 +135,26 @@ module _ (text : Bytes) (names : List ℕ) (s : State) (n : ℕ) (name : Bytes) 
         sym (first-passes (4 when out) ((5 when full) ∷ (6 when bad) ∷ []) ordered ∙ first-applies (5 when full) ((6 when bad) ∷ []) (le-leb _ _ h)))
 
     module _ (room : s .counts .atoms < mostAtoms) where
-      named : (b : Bool) → bad ≡ b → first (atomOf text names s n name) ≡ cond b (some 6) none
+      named : (b : Bool) → bad ≡ b → first (atomOf text names s n name) ≡ sixIf b
       named b e =
           first-passes (4 when out) ((5 when full) ∷ (6 when bad) ∷ []) ordered
           ∙ first-passes (5 when full) ((6 when bad) ∷ []) (lt-leb _ _ room)
-          ∙ ap (λ (x : Bool). cond x (some 6) none) e
+          ∙ ap sixIf e
 
       pub atom-misnamed : isName name ≡ false → AtomNumbered text names s n name 6
-      atom-misnamed e = numbered-atom 6 (sym (named true (ap (λ (b : Bool). not b || isAt (lookedFor text names s name)) e)))
+      atom-misnamed e = numbered-atom 6 (sym (named true (ap (λ (b : Bool). not b || used text names s name) e)))
 
-      pub atom-used : (i : ℕ) → lookedFor text names s name ≡ Found.At i → AtomNumbered text names s n name 6
-      atom-used i e =
-          numbered-atom 6 (sym (named true (ap (λ (x : Found). not (isName name) || isAt x) e ∙ or-true (not (isName name)))))
+      module _ {r : Found} (looked : NameFound text name (firstRecords nameWidth (s .counts .atoms) names) r) where
+        by-answer : (b : Bool) → nameRefusal r ≡ sixIf b → used text names s name ≡ b
+        by-answer b e = six-told (used text names s name) b (sym (looked .refusal) ∙ e)
 
-      pub atom-new : isName name ≡ true → lookedFor text names s name ≡ Found.Nowhere → AtomNumbered text names s n name 0
-      atom-new e k = numbered-atom 0 (sym (named false (ap₂ (λ (b : Bool) (x : Found). not b || isAt x) e k)))
+        pub atom-used : (i : ℕ) → r ≡ Found.At i → AtomNumbered text names s n name 6
+        atom-used i e =
+            numbered-atom 6 (
+            sym (named true (ap (λ (b : Bool). not (isName name) || b) (by-answer true (ap nameRefusal e)) ∙ or-true (not (isName name)))))
+
+        pub atom-new : isName name ≡ true → r ≡ Found.Nowhere → AtomNumbered text names s n name 0
+        atom-new e k = numbered-atom 0 (sym (named false (ap₂ (λ (a b : Bool). not a || b) e (by-answer false (ap nameRefusal k)))))
 
 -- ---- where the name stands
 

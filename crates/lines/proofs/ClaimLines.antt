@@ -1,20 +1,17 @@
--- C lines: the last row by tables that hold the rows, the tests of a claim as it was read, and the file with its claim.
-use Prim.Native.Nat.{ℕ, zero, suc, _-_, _≤_, _<_}
+-- C lines: the tests of a claim as it was read, and the file with its claim.
+use Prim.Native.Nat.{ℕ, _≤_}
 use native.Mathlib.Omega.{arith}
 use mathlib.Core.Path.{_≡_, refl, sym, ap, ap₂, subst, _∙_}
-use mathlib.Core.Bool.{Bool, true, false, cond, not, _&&_, _||_}
+use mathlib.Core.Bool.{Bool, true, false, cond, not, _||_}
 use mathlib.Core.List.{List, [], _∷_, _++_}
 use mathlib.Core.Option.{Option, none, some}
-use lib.Dec.{eqb, lit<}
 use lib.ListN.{length, getD, take}
-use borrow.Author.Tests.{eq-eqb, ne-eqb, ltb-false}
-use Rattle.elk.specs.Sequent.{Kind, elk, refutation}
-use Rattle.elk.specs.Rules.{Rule, entry, kindOf}
-use Rattle.format.specs.Text.{Bytes, fieldsOf, listOf, sameList, strictlyRising}
+use borrow.Author.Tests.{ltb-false}
+use Rattle.format.specs.Text.{Bytes, fieldsOf, listOf, strictlyRising}
 use Rattle.format.specs.File.{Row, Claim, claimed, File}
 use Rattle.format.specs.Line.{lineOf}
-use Rattle.format.specs.Tables.{Side, mostOnSide, fetched, rowAt}
-use Rattle.format.specs.Tests.{Test, _when_, first, unknownFormula, badSide, sameKind, lastIs, claimTests}
+use Rattle.format.specs.Tables.{mostOnSide}
+use Rattle.format.specs.Tests.{Test, _when_, first, unknownFormula, badSide, lastIs, claimTests}
 use Rattle.format.specs.Judged.{settled, withClaim}
 use Rattle.format.specs.Good.{Good}
 use Rattle.format.proofs.Booleans as booleans
@@ -22,100 +19,22 @@ use Rattle.format.proofs.Tested.{passes}
 use Rattle.format.proofs.Stepping.{step-claim}
 use Rattle.format.proofs.GoodBodies.{good-held}
 use Rattle.format.proofs.Formulas.{known-earlier}
-use Rattle.rules.specs.RuleTable.{kindNumber, ruleNumber}
-use Rattle.rules.proofs.RuleNumbers.{rule-number}
 use Rattle.text.specs.Lists.{listedAs, ListedInto}
 use Rattle.text.specs.declared.lists.Listed.{Listed}
 use Rattle.tables.specs.Holding.{HoldsRows}
-use Rattle.tables.specs.Records.{rowOf}
 use Rattle.counts.specs.declared.Counts.{Counts}
-use Rattle.tables.proofs.Encoded.{rule-held, side-held}
 use Rattle.rows.specs.Early.{pastOf, numbered}
-use Rattle.rows.specs.Judgement.{Laid}
 use Rattle.rows.proofs.EarlyTests.{past-listed}
 use Rattle.rows.proofs.Numbering.{first-append, numbered-some}
-use Rattle.lines.specs.State.{refusedBy, Memory, Stored}
-use Rattle.lines.specs.Lined.{OfKind}
+use Rattle.state.specs.State.{refusedBy, Memory, Stored}
+use Rattle.state.specs.Lined.{OfKind}
 use Rattle.lines.specs.ClaimLines.{claimOf, withTables, ClaimSettled, ClaimLined}
-use Rattle.lines.specs.declared.state.State.{State}
-use Rattle.lines.specs.declared.state.Stepped.{Stepped}
-use Rattle.lines.proofs.LineLaws.{claimWritten, line-claim, line-no-claim, not-listed, is-listed, list-laid, turn-same, none-given, rows-held}
+use Rattle.state.specs.declared.State.{State}
+use Rattle.state.specs.declared.Stepped.{Stepped}
+use Rattle.lines.proofs.LineLaws.{claimWritten, line-claim, line-no-claim, not-listed, is-listed, list-laid, none-given, rows-held}
 use Rattle.lines.proofs.LineLaws.{same-lengths, keeps-refused, keeps-passed, steps-next, line-refused, line-bad}
-
--- ---- the last row
-
-abbrev rowIs : Row → List ℕ → List ℕ → Bool
-rowIs q left right = sameKind (kindOf (entry (q .rule))) elk && sameList (q .left) left && sameList (q .right) right
-
-last-at : (rows : List Row) (d : Row) (n : ℕ) (left right : List ℕ) → length rows ≡ suc n → lastIs rows left right ≡ rowIs (getD rows n d) left right
-last-at [] d n left right e = absurd (omega arith)
-last-at (q ∷ []) d zero left right e = refl
-last-at (q ∷ []) d (suc n) left right e = absurd (omega arith)
-last-at (q ∷ p ∷ ps) d zero left right e = absurd (omega arith)
-last-at (q ∷ p ∷ ps) d (suc n) left right e = last-at (p ∷ ps) d n left right (omega arith)
-
-kind-test : (k : Kind) → sameKind k elk ≡ eqb (kindNumber k) 0
-kind-test elk = refl
-kind-test refutation = refl
-
-pub no-last : (rows : List Row) (left right : List ℕ) → length rows ≡ 0 → lastIs rows left right ≡ false
-no-last [] left right e = refl
-no-last (q ∷ qs) left right e = absurd (omega arith)
-
-noRow : Row
-noRow = record { rule = Rule.def; principal = none; premises = []; left = []; right = [] }
-
-module _
-    {held : List Row} {rows lefts rights : List ℕ} (holds : HoldsRows held rows lefts rights) (count : ℕ) (counted : count ≡ length held)
-    (some-row : count ≡ 0 → ⊥) where
-  last : Row
-  last = getD held (count - 1) noRow
-
-  module _ (left right : List ℕ) (code kind : ℕ) (recorded : code ≡ rowOf (rowAt rows (count - 1)) .rule) (told : kind ≡ ruleNumber code 1) where
-    -- the kind of the last row's rule, by its number
-    kind-told : kind ≡ kindNumber (kindOf (entry (last .rule)))
-    unfolding last
-    kind-told =
-        told ∙ ap (λ (k : ℕ). ruleNumber k 1) (recorded ∙ rule-held holds (count - 1) noRow (omega arith))
-        ∙ rule-number (getD held (count - 1) noRow .rule) 1 (lit< tt)
-
-    -- what is fetched of the last row, and the kind of its rule, tell
-    last-by :
-        lastIs held left right
-        ≡ eqb kind 0 && sameList (fetched rows lefts rights Side.left (count - 1)) left && sameList (fetched rows lefts rights Side.right (count - 1)) right
-    unfolding last
-    last-by =
-        last-at held noRow (count - 1) left right (omega arith)
-        ∙ ap (λ (t : Bool). t && sameList (last .left) left && sameList (last .right) right)
-        (kind-test (kindOf (entry (last .rule))) ∙ ap (λ (n : ℕ). eqb n 0) (sym kind-told))
-        ∙ ap₂ (λ (l r : List ℕ). eqb kind 0 && sameList l left && sameList r right) (sym (side-held holds (count - 1) noRow (omega arith) Side.left))
-        (sym (side-held holds (count - 1) noRow (omega arith) Side.right))
-
-    pub last-refutes : (kind ≡ 0 → ⊥) → false ≡ lastIs held left right
-    last-refutes h =
-        sym (
-        last-by
-        ∙ ap
-        (λ (t : Bool). t && sameList (fetched rows lefts rights Side.left (count - 1)) left
-        && sameList (fetched rows lefts rights Side.right (count - 1)) right)
-        (ne-eqb kind 0 h))
-
-    module _ (elk-row : kind ≡ 0) (l : List ℕ) (at-left : l ≡ fetched rows lefts rights Side.left (count - 1)) (t : Bool) (tested : t ≡ sameList l left) where
-      by-left : lastIs held left right ≡ t && sameList (fetched rows lefts rights Side.right (count - 1)) right
-      by-left =
-          last-by
-          ∙ ap₂ (λ (a c : Bool). a && c && sameList (fetched rows lefts rights Side.right (count - 1)) right) (eq-eqb kind 0 elk-row)
-          (ap (λ (x : List ℕ). sameList x left) (sym at-left) ∙ sym tested)
-
-      pub last-left : t ≡ false → false ≡ lastIs held left right
-      last-left h = sym (by-left ∙ ap (λ (a : Bool). a && sameList (fetched rows lefts rights Side.right (count - 1)) right) h)
-
-      pub last-right : t ≡ true → (r : List ℕ) → r ≡ fetched rows lefts rights Side.right (count - 1) → (u : Bool) → u ≡ sameList r right
-          → u ≡ lastIs held left right
-      last-right h r at-right u tested-right =
-          tested-right
-          ∙ ap (λ (x : List ℕ). sameList x right) at-right
-          ∙ sym (by-left ∙ ap (λ (a : Bool). a && sameList (fetched rows lefts rights Side.right (count - 1)) right) h)
+use Rattle.drafts.specs.Drafts.{Laid}
+use Rattle.state.proofs.Order.{turn-same}
 
 -- ---- the tests of a claim
 

@@ -15,11 +15,11 @@ use Rattle.keywords.specs.Words.{kindOf, KindRead}
 use Rattle.keywords.specs.declared.Kind.{Kind}
 use Rattle.keywords.specs.declared.Kind.the-variants.{Atom, Formula, Row, Claim, Unknown}
 use Rattle.parts.specs.declared.Fields.{Fields}
-use Rattle.lines.specs.State.{refusedBy, Memory}
-use Rattle.lines.specs.Lined.{Lined}
+use Rattle.state.specs.State.{refusedBy, Memory}
+use Rattle.state.specs.Lined.{Lined}
 use Rattle.lines.specs.Stepping.{LineStepped}
-use Rattle.lines.specs.declared.state.State.{State}
-use Rattle.lines.specs.declared.state.Stepped.{Stepped}
+use Rattle.state.specs.declared.State.{State}
+use Rattle.state.specs.declared.Stepped.{Stepped}
 use Rattle.lines.proofs.LineLaws.{line-bad}
 
 -- what a kind says of the field that names it

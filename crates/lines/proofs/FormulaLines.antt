@@ -2,7 +2,7 @@
 use Prim.Native.Nat.{ℕ, zero, suc, _+_, _*_, _%_, _≤_, _<_}
 use native.Mathlib.Omega.{arith}
 use mathlib.Core.Path.{_≡_, refl, sym, ap, ap₂, subst, _∙_}
-use mathlib.Core.Bool.{Bool, true, false, cond, not, _&&_, _||_, or-false, or-true, true≢false}
+use mathlib.Core.Bool.{Bool, true, false, cond, not, _&&_, _||_, or-false, true≢false}
 use mathlib.Core.List.{List, [], _∷_, _++_, List·Memᴰ·head, List·Memᴰ·tail}
 use mathlib.Core.Option.{Option, none, some}
 use lib.Dec.{leb, eqb}
@@ -14,9 +14,8 @@ use Rattle.format.specs.File.{Node, Body, File, in-formulas}
 use Rattle.format.specs.Line.{formulaLine, lineOf, nodeOf, unary, binary}
 use Rattle.format.specs.Tables.{absent, joinAll, nodeRecord, nodeWidth, mostFormulas}
 use Rattle.format.specs.Tests.{_when_, outOfOrder, unknownFormula, refersAhead, sameNode, first, formulaTests}
-use Rattle.format.specs.Judged.{Place, next, refused, settled, step, withNode}
+use Rattle.format.specs.Judged.{Place, refused, settled, step, withNode}
 use Rattle.format.specs.Good.{Good}
-use Rattle.format.proofs.Booleans.{list-same}
 use Rattle.format.proofs.GoodBodies.{Held, good-held}
 use Rattle.format.proofs.Stepping.{step-formula}
 use Rattle.format.proofs.Formulas.{known-earlier}
@@ -27,38 +26,24 @@ use Rattle.text.specs.declared.numbers.Number.{Number}
 use Rattle.parts.specs.declared.Fields.{Fields}
 use Rattle.tables.specs.Records.{written, nodeNumbers}
 use Rattle.counts.specs.Counts.{countsOf, withFormula}
-use Rattle.known.specs.Index.{NodeFound}
-use Rattle.known.specs.Entering.{Appended, FormulaEntered}
+use Rattle.known.specs.Entering.{entryRefusal, Appended, Enters, full, held, new, FormulaEntered}
 use Rattle.counts.specs.declared.Counts.{Counts}
-use Rattle.tables.specs.declared.found.Found.{Found}
 use Rattle.known.specs.declared.Entry.{Entry}
 use Rattle.tables.specs.declared.records.NodeRecord.{NodeRecord}
 use Rattle.counts.proofs.Counting.{counts-node}
 use Rattle.tables.proofs.Encoded.{nodes-length}
-use Rattle.known.proofs.Indexing.{length-entered, record-there}
+use Rattle.known.proofs.Indexing.{length-entered}
 use Rattle.known.proofs.Knowing.{known-more}
-use Rattle.lines.specs.State.{refusedBy, passedBy, notNext, Memory, Exactly, Stored}
-use Rattle.lines.specs.Lined.{OfKind, Lined}
+use Rattle.state.specs.State.{refusedBy, passedBy, notNext, Memory, Exactly, Stored}
+use Rattle.state.specs.Lined.{OfKind, Lined}
 use Rattle.lines.specs.FormulaLines.{writtenAs, narrowed, aheadIn, FormulaNumbered, FormulaLined, withFormulas}
 use Rattle.rows.specs.Early.{numbered}
-use Rattle.lines.specs.declared.state.State.{State}
-use Rattle.lines.specs.declared.state.Stepped.{Stepped}
+use Rattle.state.specs.declared.State.{State}
+use Rattle.state.specs.declared.Stepped.{Stepped}
 use Rattle.lines.specs.declared.formula.Written.{Written}
-use Rattle.lines.proofs.LineLaws.{
-  line-formula,
-  line-no-formula,
-  number-value,
-  number-bad,
-  order-same,
-  number-given,
-  keeps-passed,
-  steps-next,
-  line-refused,
-  written-length,
-  put-exactly,
-  nodes-held,
-}
+use Rattle.lines.proofs.LineLaws.{line-formula, line-no-formula, number-value, number-bad, number-given, keeps-passed, steps-next, line-refused, written-length, put-exactly, nodes-held}
 use Rattle.rows.proofs.Numbering.{numbered-none}
+use Rattle.state.proofs.Order.{order-same}
 
 -- ---- the formula of three fields
 
@@ -385,35 +370,28 @@ module _ (line : Bytes) (fields : Fields) (fielded : Fielded line fields) (kind 
 -- ---- what entering the formula came to
 
 module _ {formulas words formulas′ words′ : List ℕ} {count : ℕ} {key : NodeRecord} where
-  pub entered-held : {r : Entry} → FormulaEntered formulas words count key formulas′ words′ r → (i : ℕ) → r ≡ Entry.Held i
-      → NodeFound formulas words (nodeNumbers key) (Found.At i) × (formulas′ ≡ formulas) × (words′ ≡ words)
-  entered-held (FormulaEntered.full most same-formulas same-words) i e = let z : _≡_ {A = ℕ} 0 1 = cc in absurd (omega arith)
-  entered-held (FormulaEntered.held j few found same-formulas same-words) i e =
-      let k : j ≡ i = cc in
-      (subst (λ (x : ℕ). NodeFound formulas words (nodeNumbers key) (Found.At x)) k found, same-formulas, same-words)
-  entered-held (FormulaEntered.new few found more) i e = let z : _≡_ {A = ℕ} 0 1 = cc in absurd (omega arith)
+  pub entered-held : {r : Entry} → Enters formulas words count key formulas′ words′ r → (i : ℕ) → r ≡ Entry.Held i
+      → (formulas′ ≡ formulas) × (words′ ≡ words)
+  entered-held (full most same-formulas same-words) i e = let z : _≡_ {A = ℕ} 0 1 = cc in absurd (omega arith)
+  entered-held (held j few found same-formulas same-words) i e = (same-formulas, same-words)
+  entered-held (new few found more) i e = let z : _≡_ {A = ℕ} 0 1 = cc in absurd (omega arith)
 
-  pub entered-full : {r : Entry} → FormulaEntered formulas words count key formulas′ words′ r → r ≡ Entry.Full → mostFormulas ≤ count
-  entered-full (FormulaEntered.full most same-formulas same-words) e = most
-  entered-full (FormulaEntered.held j few found same-formulas same-words) e = let z : _≡_ {A = ℕ} 0 1 = cc in absurd (omega arith)
-  entered-full (FormulaEntered.new few found more) e = let z : _≡_ {A = ℕ} 0 1 = cc in absurd (omega arith)
+  pub entered-full : {r : Entry} → Enters formulas words count key formulas′ words′ r → r ≡ Entry.Full → mostFormulas ≤ count
+  entered-full (full most same-formulas same-words) e = most
+  entered-full (held j few found same-formulas same-words) e = let z : _≡_ {A = ℕ} 0 1 = cc in absurd (omega arith)
+  entered-full (new few found more) e = let z : _≡_ {A = ℕ} 0 1 = cc in absurd (omega arith)
 
-  pub entered-new : {r : Entry} → FormulaEntered formulas words count key formulas′ words′ r → (i : ℕ) → r ≡ Entry.New i
-      → NodeFound formulas words (nodeNumbers key) Found.Nowhere × Appended formulas words count key formulas′ words′
-  entered-new (FormulaEntered.full most same-formulas same-words) i e = let z : _≡_ {A = ℕ} 0 1 = cc in absurd (omega arith)
-  entered-new (FormulaEntered.held j few found same-formulas same-words) i e = let z : _≡_ {A = ℕ} 0 1 = cc in absurd (omega arith)
-  entered-new (FormulaEntered.new few found more) i e = (found, more)
+  pub entered-new : {r : Entry} → Enters formulas words count key formulas′ words′ r → (i : ℕ) → r ≡ Entry.New i
+      → Appended formulas words count key formulas′ words′
+  entered-new (full most same-formulas same-words) i e = let z : _≡_ {A = ℕ} 0 1 = cc in absurd (omega arith)
+  entered-new (held j few found same-formulas same-words) i e = let z : _≡_ {A = ℕ} 0 1 = cc in absurd (omega arith)
+  entered-new (new few found more) i e = more
 
   formulas-length : Appended formulas words count key formulas′ words′ → length formulas′ ≡ length formulas
   formulas-length more = ap length (more .put) ∙ written-length formulas (nodeWidth * count) (nodeNumbers key)
 
   words-length : Appended formulas words count key formulas′ words′ → length words′ ≡ length words
   words-length more = ap length (more .noted) ∙ length-entered (set words count (more .atoms)) count (nodeNumbers key) ∙ length-set words count (more .atoms)
-
-any-at : {A : Type 0} (test : A → Bool) (xs : List A) (i : ℕ) (d : A) → i < length xs → test (getD xs i d) ≡ true → any test xs ≡ true
-any-at test [] i d h e = absurd (omega arith)
-any-at test (x ∷ xs) zero d h e = ap (λ (b : Bool). b || any test xs) e
-any-at test (x ∷ xs) (suc i) d h e = ap (λ (b : Bool). test x || b) (any-at test xs i d (omega arith) e) ∙ or-true (test x)
 
 -- ---- the line, by a beginning that the tables hold
 
@@ -459,33 +437,19 @@ module _ (line : Bytes) (number : ℕ) (s : State) (formulas words : List ℕ) (
       is-record : nodeNumbers key ≡ nodeRecord m
       is-record = ap nodeNumbers (is-key ∙ ap narrowed (read .written-as)) ∙ record-fits (f .body) (good-held (good .body)) m (late .0)
 
-      again-refused : (i : ℕ) → NodeFound formulas words (nodeNumbers key) (Found.At i) → step f p line ≡ refused 8 (p .line)
-      again-refused i found =
-          step-formula f p line n m (read .read)
-          ∙ ap (λ (o : Option ℕ). settled o p (withNode f m)) (late .2 ∙ ap (λ (b : Bool). cond b (some 8) none) there)
+      -- the number of the line is the one that the answer stands for
+      entry-tells : {formulas′ words′ : List ℕ} {entry : Entry} → FormulaEntered formulas words (s .counts .formulas) key formulas′ words′ entry
+          → step f p line ≡ settled (entryRefusal entry) p (withNode f m)
+      entry-tells {entry} entered =
+          step-formula f p line n m (read .read) ∙ ap (λ (o : Option ℕ). settled o p (withNode f m)) (late .2 ∙ sym tells)
         where
-          inside : i < length nodes
-          inside = found .within nodes (nodes-held stored) (stored .known .index) i refl
+          tells : entryRefusal entry ≡ cond again (some 8) none
+          tells =
+              entered .refusal nodes (nodes-held stored) (stored .known .index)
+              ∙ ap₂ (λ (a b : Bool). first ((5 when a) ∷ (8 when b) ∷ [])) (ap (leb mostFormulas) held-count ∙ late .1)
+              (ap (λ (l : List ℕ). any (λ x. sameList (nodeRecord x) l) nodes) is-record)
 
-          same : nodeRecord m ≡ nodeRecord (getD nodes i Node.bot)
-          same = sym is-record ∙ sym (found .there i refl) ∙ record-there (nodes-held stored) i inside
-
-          there : again ≡ true
-          there =
-              any-at (λ x. sameNode x m) nodes i Node.bot inside (ap (λ (l : List ℕ). sameList (nodeRecord (getD nodes i Node.bot)) l) same ∙ list-same _)
-
-      module _ {formulas′ words′ : List ℕ} (found : NodeFound formulas words (nodeNumbers key) Found.Nowhere)
-          (more : Appended formulas words (s .counts .formulas) key formulas′ words′) where
-        passes : step f p line ≡ next (withNode f m)
-        passes =
-            step-formula f p line n m (read .read)
-            ∙ ap (λ (o : Option ℕ). settled o p (withNode f m)) (late .2 ∙ ap (λ (b : Bool). cond b (some 8) none) nowhere)
-          where
-            nowhere : again ≡ false
-            nowhere =
-                ap (λ (l : List ℕ). any (λ x. sameList (nodeRecord x) l) nodes) (sym is-record)
-                ∙ found .missing nodes (nodes-held stored) (stored .known .index) refl
-
+      module _ {formulas′ words′ : List ℕ} (more : Appended formulas words (s .counts .formulas) key formulas′ words′) where
         room : length nodes < mostFormulas
         room = leb-false _ _ (late .1)
 
@@ -533,33 +497,36 @@ module _ (line : Bytes) (number : ℕ) (s : State) (formulas words : List ℕ) (
 
   module _ (z : k ≡ 0) {key : NodeRecord} (is-key : key ≡ narrowed node) {formulas′ words′ : List ℕ} {entry : Entry}
       (entered : FormulaEntered formulas words (s .counts .formulas) key formulas′ words′ entry) where
+    told : {text : Bytes} {f : File} {done : List Bytes} (t : Memory) (p : Place) → Good done f → Stored text f s (withFormulas t formulas words)
+        → {o : Option ℕ} → entryRefusal entry ≡ o → step f p line ≡ settled o p (withNode f m)
+    told {f} t p good stored e = entry-tells t p good stored z key is-key entered ∙ ap (λ (o : Option ℕ). settled o p (withNode f m)) e
+
     pub formula-held : {r : Stepped} (i : ℕ) → entry ≡ Entry.Held i → r ≡ refusedBy s 8 number → FormulaLined line number s r formulas words formulas′ words′
     formula-held {r} i is-held e text start t =
-        let parts = entered-held entered i is-held in
-        subst (λ (u : Memory). Lined text start line number s r (withFormulas t formulas words) u) (ap₂ (withFormulas t) (sym (parts .1)) (sym (parts .2)))
-        (line-refused 8 _ e (λ f p done good stored. again-refused t p good stored z key is-key i (parts .0)))
+        let same = entered-held (entered .entry) i is-held in
+        subst (λ (u : Memory). Lined text start line number s r (withFormulas t formulas words) u) (ap₂ (withFormulas t) (sym (same .0)) (sym (same .1)))
+        (line-refused 8 _ e (λ f p done good stored. told t p good stored (ap entryRefusal is-held)))
 
     pub formula-full : {r : Stepped} → entry ≡ Entry.Full → FormulaLined line number s r formulas words formulas′ words′
     formula-full is-full =
         let out = notNext (s .stage) 1 (s .counts .formulas) n in
         let ahead-here = aheadIn node (s .counts) in
         let few = leb-false mostFormulas (s .counts .formulas) (numbered-late out _ ahead-here false k (numbers .tests) z .1) in
-        absurd (omega (arith, few, entered-full entered is-full))
+        absurd (omega (arith, few, entered-full (entered .entry) is-full))
 
     pub formula-new : {r : Stepped} {counts : Counts} (i : ℕ) → entry ≡ Entry.New i → counts ≡ withFormula (s .counts) → r ≡ passedBy s counts 1 number
         → FormulaLined line number s r formulas words formulas′ words′
     formula-new {r} i is-new more-counts e text start t =
-        let parts = entered-new entered i is-new in
-        let more = parts .1 in
+        let more = entered-new (entered .entry) i is-new in
         let zero-number : r .number ≡ 0 = ap (λ (x : Stepped). x .number) e in
         let by-counts = ap (λ (x : Counts). passedBy s x 1 number .state) more-counts in
         let state-is : passedBy s (withFormula (s .counts)) 1 number .state ≡ r .state = sym (ap (λ (x : Stepped). x .state) e ∙ by-counts) in
         record {
           steps =
               λ f p done good stored size at-start at-line.
-              steps-next r (withNode f m) (passes t p good stored z key is-key (parts .0) more) zero-number
+              steps-next r (withNode f m) (told t p good stored (ap entryRefusal is-new)) zero-number
               (subst (λ (x : State). Stored text (withNode f m) x (withFormulas t formulas′ words′)) state-is
-              (after t p good stored z key is-key (parts .0) more));
+              (after t p good stored z key is-key more));
           keeps =
               keeps-passed zero-number
               (record { names = refl; formulas = formulas-length more; words = words-length more; rows = refl; left = refl; right = refl });

@@ -1,17 +1,17 @@
--- Lines of any kind: what is read of one by its kind and the count of its fields, its order, the number that it earns, what a line
+-- Lines of any kind: what is read of one by its kind and the count of its fields, the number that it earns, what a line
 -- that is refused comes to and one that passes, and what the tables hold.
 use Prim.Native.Nat.{ℕ, zero, suc, _+_, _≤_, _<_, min}
 use native.Mathlib.Omega.{arith}
 use mathlib.Core.Path.{_≡_, refl, sym, ap, ap₂, subst, _∙_}
-use mathlib.Core.Bool.{Bool, true, false, not, cond, _&&_, _||_, true≢false, false≢true}
+use mathlib.Core.Bool.{Bool, true, false, cond, true≢false, false≢true}
 use mathlib.Core.List.{List, [], _∷_, _++_, List·Memᴰ·head, List·Memᴰ·tail}
 use mathlib.Core.Option.{Option, none, some}
-use lib.Dec.{eqb, ltb, leb}
+use lib.Dec.{leb}
 use lib.ListN.{length, getD, take, drop, length-append, length-take, length-drop}
-use borrow.Author.Tests.{eq-eqb, ne-eqb, le-leb, lt-leb, leb-true, ltb-true, ltb-false}
+use borrow.Author.Tests.{eq-eqb, ne-eqb, leb-true}
 use Rattle.elk.specs.Rules.{Rule}
 use Rattle.format.specs.Text.{Bytes, bytes, _<$>_, _<*>_, onlyIf, fieldsOf, sameList, numberOf, principalOf, listOf}
-use Rattle.format.specs.File.{Stage, File}
+use Rattle.format.specs.File.{File}
 use Rattle.format.specs.Line.{
   Line,
   atomLine,
@@ -30,7 +30,6 @@ use Rattle.format.specs.Line.{
   lineOf,
 }
 use Rattle.format.specs.Tables.{padded, joinAll, mostOnSide}
-use Rattle.format.specs.Tests.{rank, mayFollow, outOfOrder}
 use Rattle.format.specs.Judged.{Place, Outcome, next, refused, settled, step}
 use Rattle.format.specs.Good.{Good}
 use Rattle.format.proofs.Stepping.{step-bad}
@@ -43,11 +42,12 @@ use Rattle.tables.specs.Records.{written}
 use Rattle.tables.specs.Holding.{HoldsNodes, HoldsRows}
 use Rattle.tables.proofs.Encoded.{begins-padded, put-encoded}
 use Rattle.rows.specs.Early.{numbered}
-use Rattle.rows.specs.Judgement.{Narrow, Laid, Ground}
-use Rattle.lines.specs.State.{refusedBy, outOfTurn, notNext, Memory, SameLengths, Exactly, Stored, Steps, Keeps}
-use Rattle.lines.specs.Lined.{OfKind, Lined}
-use Rattle.lines.specs.declared.state.State.{State}
-use Rattle.lines.specs.declared.state.Stepped.{Stepped}
+use Rattle.rows.specs.Judgement.{Ground}
+use Rattle.state.specs.State.{refusedBy, Memory, SameLengths, Exactly, Stored, Steps, Keeps}
+use Rattle.state.specs.Lined.{OfKind, Lined}
+use Rattle.state.specs.declared.State.{State}
+use Rattle.state.specs.declared.Stepped.{Stepped}
+use Rattle.drafts.specs.Drafts.{Narrow, Laid}
 
 -- ---- the fields of a line
 
@@ -189,38 +189,6 @@ pub list-laid : {xs table : List ℕ} {listed : Listed} (was : List ℕ) → lis
     → Laid xs listed table
 list-laid {xs} was answer stored room =
     record { answer = answer; front = λ short narrow. ap (take (length xs)) stored ∙ laid-part xs was narrow (omega arith) }
-
--- ---- the order of lines
-
-module _ (stage coming : ℕ) where
-  pub turn-back : coming < stage → true ≡ outOfTurn stage coming
-  unfolding outOfTurn
-  turn-back h = sym (ap (λ (b : Bool). not (b && ltb stage 3)) (lt-leb stage coming h))
-
-  pub turn-last : stage ≤ coming → leb 3 stage ≡ outOfTurn stage coming
-  unfolding outOfTurn
-  turn-last h = sym (ap (λ (b : Bool). not (b && ltb stage 3)) (le-leb stage coming h) ∙ by-test (ltb stage 3) refl)
-    where
-      by-test : (b : Bool) → ltb stage 3 ≡ b → not b ≡ leb 3 stage
-      by-test true e = sym (lt-leb 3 stage (ltb-true stage 3 e))
-      by-test false e = sym (le-leb 3 stage (ltb-false stage 3 e))
-
-  module _ (held number : ℕ) where
-    pub order-turn : outOfTurn stage coming ≡ true → true ≡ notNext stage coming held number
-    unfolding notNext
-    order-turn e = sym (ap (λ (b : Bool). b || not (eqb number held)) e)
-
-    pub order-number : outOfTurn stage coming ≡ false → not (eqb number held) ≡ notNext stage coming held number
-    unfolding notNext
-    order-number e = sym (ap (λ (b : Bool). b || not (eqb number held)) e)
-
-pub turn-same : {stage : ℕ} (s t : Stage) → stage ≡ rank s → outOfTurn stage (rank t) ≡ not (mayFollow s t)
-unfolding outOfTurn
-turn-same s t e = ap (λ (k : ℕ). outOfTurn k (rank t)) e
-
-pub order-same : {stage held : ℕ} (s t : Stage) (have n : ℕ) → stage ≡ rank s → held ≡ have → notNext stage (rank t) held n ≡ outOfOrder s t have n
-unfolding outOfTurn notNext
-order-same s t have n e k = ap₂ (λ (i j : ℕ). notNext i (rank t) j n) e k
 
 -- ---- the number that a line earns
 

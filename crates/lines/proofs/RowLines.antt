@@ -1,33 +1,20 @@
 -- N lines: their six fields together, what a row that is well written comes to, and the tables with one row more.
-use Prim.Native.Nat.{ℕ, zero, suc, _+_, _*_, _%_, _≤_, _<_, min}
+use Prim.Native.Nat.{ℕ, zero, suc, _+_, _*_, _%_, _≤_, _<_}
 use native.Mathlib.Omega.{arith}
 use mathlib.Core.Path.{_≡_, refl, sym, ap, ap₂, subst, _∙_}
-use mathlib.Core.Bool.{Bool, true, false, not, cond, _&&_, true≢false, false≢true}
+use mathlib.Core.Bool.{Bool, true, false, not, _&&_, true≢false, false≢true}
 use mathlib.Core.List.{List, [], _∷_, _++_, List·Memᴰ·head, List·Memᴰ·tail}
 use mathlib.Core.Option.{Option, none, some}
-use lib.Dec.{eqb, ltb}
-use lib.ListN.{length, getD, take, length-append}
+use lib.Dec.{eqb, ltb, lit<}
+use lib.ListN.{length, getD, take}
 use borrow.Author.Tests.{ne-eqb, leb-false, ltb-false}
-use Rattle.equilibrium.specs.Meaning.{_∈_}
 use Rattle.elk.specs.Rules.{Rule, codeOf}
-use Rattle.format.specs.Text.{Bytes, fieldsOf, numberOf, principalOf, listOf, strictlyRising}
+use Rattle.format.specs.Text.{Bytes, numberOf, principalOf, listOf, strictlyRising}
 use Rattle.format.specs.File.{Row, in-rows, File, addRow}
 use Rattle.format.specs.Line.{rowLine, ruleOf, makeRow, lineOf}
-use Rattle.format.specs.Tables.{
-  absent,
-  orAbsent,
-  joinAll,
-  leftPool,
-  rightPool,
-  rowWidth,
-  rowRecord,
-  rowRecords,
-  mostBytes,
-  mostOnSide,
-  padded,
-}
-use Rattle.format.specs.Tests.{Test, _when_, first, outOfOrder, listed, unknownFormula, badSide, bodyTests, rowTests}
-use Rattle.format.specs.Judged.{Place, next, refused, settled, step, withRow}
+use Rattle.format.specs.Tables.{absent, orAbsent, leftPool, rightPool, rowWidth, rowRecord, rowRecords, mostBytes, mostOnSide, padded}
+use Rattle.format.specs.Tests.{_when_, first, outOfOrder, listed, unknownFormula, badSide, bodyTests, rowTests}
+use Rattle.format.specs.Judged.{Place, next, settled, step, withRow}
 use Rattle.format.specs.Good.{Good}
 use Rattle.format.proofs.Booleans.{or-false, any-false}
 use Rattle.format.proofs.Tested.{passes, PassedRow, passed-row}
@@ -35,73 +22,34 @@ use Rattle.format.proofs.GoodBodies.{good-held}
 use Rattle.format.proofs.Formulas.{known-earlier}
 use Rattle.format.proofs.Stepping.{first-applies, first-passes, step-row}
 use Rattle.rules.proofs.RuleNumbers.{code-below}
-use Rattle.text.specs.Numbers.{principalAs, NumberRead, PrincipalRead}
-use Rattle.text.specs.Lists.{listedAs, laidOver, ListedInto}
-use Rattle.keywords.specs.Words.{noRule, ruleCode}
-use Rattle.text.specs.declared.numbers.Number.{Number}
-use Rattle.text.specs.declared.numbers.Optional.{Optional}
+use Rattle.text.specs.Numbers.{principalAs}
+use Rattle.text.specs.Lists.{listedAs, laidOver}
+use Rattle.parts.specs.Parts.{Fielded, fieldBy}
+use Rattle.parts.specs.declared.Fields.{Fields}
+use Rattle.parts.proofs.PartLaws.{field-found}
+use Rattle.keywords.specs.Words.{noRule}
 use Rattle.text.specs.declared.lists.Listed.{Listed}
 use Rattle.counts.specs.Counts.{countsOf, fullFor, withRow as countRow}
 use Rattle.tables.specs.Records.{written, rowNumbers}
 use Rattle.counts.specs.declared.Counts.{Counts}
 use Rattle.counts.proofs.Counting.{counts-row}
-use Rattle.tables.proofs.Encoded.{rows-length, put-row-encoded}
+use Rattle.tables.proofs.Encoded.{put-row-encoded}
 use Rattle.rows.specs.Early.{numbered}
-use Rattle.rows.specs.Judgement.{Narrow, Laid, Drafted, RowNumbered}
-use Rattle.rows.specs.Judging.{principalOf as principalNumber}
-use Rattle.rows.specs.declared.draft.Draft.{Draft}
+use Rattle.rows.specs.Judgement.{RowNumbered}
+use Rattle.drafts.specs.declared.Draft.{Draft}
 use Rattle.rows.proofs.Numbering.{numbered-some, numbered-none}
-use Rattle.lines.specs.State.{refusedBy, passedBy, Memory, SameLengths, Exactly, Stored, Steps, Keeps}
-use Rattle.lines.specs.Lined.{OfKind, Lined}
-use Rattle.lines.specs.RowLines.{
-  readAs,
-  rowRead,
-  RowInto,
-  isBad,
-  wellOf,
-  otherIn,
-  draftOf,
-  recordOf,
-  RowStored,
-  withRows,
-  RowLaid,
-  RowSettled,
-}
-use Rattle.lines.specs.declared.state.State.{State}
-use Rattle.lines.specs.declared.state.Stepped.{Stepped}
-use Rattle.lines.specs.declared.row.RowRead.{RowRead}
-use Rattle.lines.proofs.LineLaws.{
-  rowWritten,
-  line-row,
-  line-no-row,
-  order-same,
-  keeps-refused,
-  keeps-passed,
-  steps-next,
-  line-refused,
-  line-bad,
-  written-length,
-  put-exactly,
-  ground,
-  list-laid,
-}
+use Rattle.state.specs.State.{refusedBy, passedBy, Memory, SameLengths, Exactly, Stored, Steps, Keeps}
+use Rattle.state.specs.Lined.{OfKind, Lined}
+use Rattle.lines.specs.RowLines.{otherIn, withRows, RowSettled}
+use Rattle.state.specs.declared.State.{State}
+use Rattle.state.specs.declared.Stepped.{Stepped}
+use Rattle.lines.proofs.LineLaws.{rowWritten, line-row, keeps-refused, keeps-passed, steps-next, line-refused, written-length, put-exactly, ground, list-laid}
+use Rattle.drafts.specs.Drafts.{Narrow, Laid, Drafted, principalNumber, readAs, rowRead, RowInto, isBad, wellOf, draftOf, RowLaid}
+use Rattle.rows.specs.Storing.{recordOf, RowStored}
+use Rattle.drafts.specs.declared.RowRead.{RowRead}
+use Rattle.state.proofs.Order.{order-same}
 
 -- ---- the fields
-
-pub row-into : {fields : List Bytes} {one two three four five six : Bytes} {premises left right premises′ left′ right′ : List ℕ}
-    {number : Number} {rule : ℕ} {principal : Optional} {a b d : Listed}
-    → one ≡ getD fields 1 [] → two ≡ getD fields 2 [] → three ≡ getD fields 3 [] → four ≡ getD fields 4 [] → five ≡ getD fields 5 [] → six ≡ getD fields 6 []
-    → NumberRead one number → rule ≡ ruleCode (ruleOf two) → PrincipalRead three principal
-    → ListedInto four premises premises′ a → ListedInto five left left′ b → ListedInto six right right′ d
-    → RowInto fields premises left right premises′ left′ right′
-    (record { number = number; rule = rule; principal = principal; premises = a; left = b; right = d })
-row-into e1 e2 e3 e4 e5 e6 n r p x y z =
-    record {
-      answer = cc (n .answer, p .answer, x .answer, y .answer, z .answer);
-      premises-stored = λ xs h. x .stored xs (ap listOf e4 ∙ h);
-      left-stored = λ xs h. y .stored xs (ap listOf e5 ∙ h);
-      right-stored = λ xs h. z .stored xs (ap listOf e6 ∙ h);
-    }
 
 -- the row that well written fields write
 pub record Written (number : Option ℕ) (rule : Option Rule) (principal : Option (Option ℕ)) (premises left right : Option (List ℕ)) : Type 0 where
@@ -171,22 +119,37 @@ laid-at (x ∷ xs) (o ∷ was) (suc i) narrow room = laid-at xs was i (λ y m. n
 
 -- ---- a line whose kind is N
 
-module _ (line : Bytes) (kind : OfKind "N" line) (counted : length (fieldsOf line) ≡ 7) {above l r above′ l′ r′ : List ℕ} {row : RowRead}
-    (i : RowInto (fieldsOf line) above l r above′ l′ r′ row) where
+module _ (line : Bytes) (kind : OfKind "N" line) (fields : Fields) (fielded : Fielded line fields) (counted : fields .count ≡ 7)
+    {above l r above′ l′ r′ : List ℕ} {row : RowRead} (i : RowInto (fieldBy line fields) above l r above′ l′ r′ row) where
+  abbrev own : Option ℕ
+  own = numberOf (fieldBy line fields 1)
+
+  abbrev rule : Option Rule
+  rule = ruleOf (fieldBy line fields 2)
+
+  abbrev principal : Option (Option ℕ)
+  principal = principalOf (fieldBy line fields 3)
+
+  abbrev listAt : ℕ → Option (List ℕ)
+  listAt k = listOf (fieldBy line fields k)
+
+  is-row : lineOf line ≡ rowWritten own rule principal (listAt 4) (listAt 5) (listAt 6)
+  is-row =
+      let at-1 = field-found line fields 1 fielded (lit< tt) in
+      let at-2 = field-found line fields 2 fielded (lit< tt) in
+      let at-3 = field-found line fields 3 fielded (lit< tt) in
+      let at-4 = field-found line fields 4 fielded (lit< tt) in
+      let at-5 = field-found line fields 5 fielded (lit< tt) in
+      let at-6 = field-found line fields 6 fielded (lit< tt) in
+      line-row line kind (sym (fielded .counted) ∙ counted) ∙ cc
+
   pub row-unread : wellOf row ≡ false → lineOf line ≡ none
-  row-unread h =
-      let fs = fieldsOf line in
-      line-row line kind counted
-      ∙ badly-written (numberOf (getD fs 1 [])) (ruleOf (getD fs 2 [])) (principalOf (getD fs 3 []))
-      (listOf (getD fs 4 [])) (listOf (getD fs 5 [])) (listOf (getD fs 6 [])) (ap wellOf (sym (i .answer)) ∙ h)
+  row-unread h = is-row ∙ badly-written own rule principal (listAt 4) (listAt 5) (listAt 6) (ap wellOf (sym (i .answer)) ∙ h)
 
   pub row-found : wellOf row ≡ true → above ≡ absent ∷ absent ∷ [] → mostOnSide ≤ length l → mostOnSide ≤ length r
       → (n : ℕ) × (q : Row) × (lineOf line ≡ some (rowLine n q)) × RowLaid n q row above′ l′ r′
   row-found h lent left-room right-room =
-      let fs = fieldsOf line in
-      let w =
-      well-written (numberOf (getD fs 1 [])) (ruleOf (getD fs 2 [])) (principalOf (getD fs 3 [])) (listOf (getD fs 4 []))
-      (listOf (getD fs 5 [])) (listOf (getD fs 6 [])) (ap wellOf (sym (i .answer)) ∙ h) in
+      let w = well-written own rule principal (listAt 4) (listAt 5) (listAt 6) (ap wellOf (sym (i .answer)) ∙ h) in
       let read : row ≡ rowRead (w .own) (w .row) = i .answer ∙ w .read in
       let laid : RowLaid (w .own) (w .row) row above′ l′ r′ =
       record {
@@ -195,7 +158,7 @@ module _ (line : Bytes) (kind : OfKind "N" line) (counted : length (fieldsOf lin
         left-laid = list-laid l (ap (λ (z : RowRead). z .left) read) (i .left-stored (w .row .left) (w .left-listed)) left-room;
         right-laid = list-laid r (ap (λ (z : RowRead). z .right) read) (i .right-stored (w .row .right) (w .right-listed)) right-room;
       } in
-      (w .own, w .row, line-row line kind counted ∙ w .line, laid)
+      (w .own, w .row, is-row ∙ w .line, laid)
 
 -- ---- the draft of a row
 

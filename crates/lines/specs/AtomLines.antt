@@ -1,5 +1,5 @@
 -- A lines: the number that an atom earns, and what the line comes to. Only the names can change.
-use Prim.Native.Nat.{ℕ, _≤_, _<_}
+use Prim.Native.Nat.{ℕ, _<_}
 use mathlib.Core.Path.{_≡_}
 use mathlib.Core.Bool.{true}
 use mathlib.Core.List.{List}
@@ -12,10 +12,10 @@ use Rattle.format.specs.Tests.{rank, first, atomTests}
 use Rattle.tables.specs.Holding.{Begins}
 use Rattle.tables.specs.Names.{StandsIn}
 use Rattle.rows.specs.Early.{numbered}
-use Rattle.lines.specs.State.{Memory}
-use Rattle.lines.specs.Lined.{Lined}
-use Rattle.lines.specs.declared.state.State.{State}
-use Rattle.lines.specs.declared.state.Stepped.{Stepped}
+use Rattle.state.specs.State.{Memory}
+use Rattle.state.specs.Lined.{Lined}
+use Rattle.state.specs.declared.State.{State}
+use Rattle.state.specs.declared.Stepped.{Stepped}
 
 -- the first of 4, 5 and 6 that applies
 pub record AtomNumbered (text : Bytes) (names : List ℕ) (s : State) (n : ℕ) (name : Bytes) (k : ℕ) : Type 0 where

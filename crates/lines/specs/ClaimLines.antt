@@ -9,11 +9,11 @@ use Rattle.format.specs.Line.{claimLine, lineOf}
 use Rattle.format.specs.Tests.{Test, _when_}
 use Rattle.text.specs.declared.lists.Listed.{Listed}
 use Rattle.rows.specs.Early.{pastOf, badOf}
-use Rattle.rows.specs.Judgement.{Laid}
-use Rattle.lines.specs.State.{outOfTurn, Memory, Keeps}
-use Rattle.lines.specs.Lined.{Lined}
-use Rattle.lines.specs.declared.state.State.{State}
-use Rattle.lines.specs.declared.state.Stepped.{Stepped}
+use Rattle.state.specs.State.{outOfTurn, Memory, Keeps}
+use Rattle.state.specs.Lined.{Lined}
+use Rattle.state.specs.declared.State.{State}
+use Rattle.state.specs.declared.Stepped.{Stepped}
+use Rattle.drafts.specs.Drafts.{Laid}
 
 -- the numbers 4, 7 and 9
 abbrev pub claimOf : Listed → Listed → State → List Test

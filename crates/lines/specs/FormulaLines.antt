@@ -1,6 +1,6 @@
 -- F lines: what is read of them, the number that a formula earns, and what the line comes to. Only the formulas and what is known
 -- of them can change.
-use Prim.Native.Nat.{ℕ, zero, suc, _%_, _<_}
+use Prim.Native.Nat.{ℕ, _%_}
 use mathlib.Core.Path.{_≡_}
 use mathlib.Core.Bool.{Bool, true, false, cond, _||_}
 use mathlib.Core.List.{List, [], _∷_}
@@ -14,10 +14,10 @@ use Rattle.format.specs.Tests.{Test, _when_, first}
 use Rattle.counts.specs.declared.Counts.{Counts}
 use Rattle.tables.specs.declared.records.NodeRecord.{NodeRecord}
 use Rattle.rows.specs.Early.{numbered}
-use Rattle.lines.specs.State.{notNext, Memory}
-use Rattle.lines.specs.Lined.{Lined}
-use Rattle.lines.specs.declared.state.State.{State}
-use Rattle.lines.specs.declared.state.Stepped.{Stepped}
+use Rattle.state.specs.State.{notNext, Memory}
+use Rattle.state.specs.Lined.{Lined}
+use Rattle.state.specs.declared.State.{State}
+use Rattle.state.specs.declared.Stepped.{Stepped}
 use Rattle.lines.specs.declared.formula.Written.{Written}
 
 -- the formula, as its fields are read

@@ -1,5 +1,3 @@
-pub mod State
-pub mod Lined
 pub mod Stepping
 pub mod AtomLines
 pub mod FormulaLines

@@ -5,10 +5,10 @@ use lib.ListN.{length}
 use Rattle.format.specs.Text.{Bytes}
 use Rattle.parts.specs.Parts.{between}
 use Rattle.parts.specs.Refusals.{badLine}
-use Rattle.lines.specs.State.{refusedBy, Memory}
-use Rattle.lines.specs.Lined.{Lined}
-use Rattle.lines.specs.declared.state.State.{State}
-use Rattle.lines.specs.declared.state.Stepped.{Stepped}
+use Rattle.state.specs.State.{refusedBy, Memory}
+use Rattle.state.specs.Lined.{Lined}
+use Rattle.state.specs.declared.State.{State}
+use Rattle.state.specs.declared.Stepped.{Stepped}
 
 -- A part of the text is judged as a line, by every accepted beginning that the tables hold; a place outside the text is a bad line.
 -- Where the tables hold no accepted beginning, or the text is longer than 65,536 bytes, it is free whether the line passes and

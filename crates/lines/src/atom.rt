@@ -1,21 +1,20 @@
 // A lines.
-ghost use mathlib.Core.Path.{_≡_};
 ghost use Prim.Native.Nat.{_≤_};
 ghost use lib.ListN.{length};
 ghost use Rattle.parts.specs.Parts.{between, Fielded};
-ghost use Rattle.lines.specs.Lined.{OfKind};
+ghost use Rattle.state.specs.Lined.{OfKind};
 ghost use Rattle.lines.specs.AtomLines.{AtomNumbered, AtomLined};
-use crate::numbers::narrow_place;
-use crate::state::ATOMS;
-use crate::state::State;
-use crate::state::Stepped;
-use crate::state::out_of_order;
 use counts::limits::MOST_ATOMS;
 use parts::Fields;
 use parts::field;
 use parts::refusals::BAD_LINE;
-use tables::found::Found;
+use state::ATOMS;
+use state::State;
+use state::Stepped;
+use state::out_of_order;
+use tables::names::Found;
 use tables::names::find_name;
+use tables::records::narrow_place;
 use tables::records::put_name;
 use text::names::is_name;
 use text::numbers::Number;

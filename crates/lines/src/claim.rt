@@ -1,58 +1,24 @@
 // The C line.
 ghost use mathlib.Core.Path.{_≡_};
-ghost use mathlib.Core.List.{List};
-ghost use lib.ListN.{length};
-ghost use Rattle.format.specs.File.{Row};
-ghost use Rattle.format.specs.Tests.{first, lastIs};
+ghost use Rattle.format.specs.Tests.{first};
 ghost use Rattle.rows.specs.Early.{numbered};
-ghost use Rattle.tables.specs.Holding.{HoldsRows};
 ghost use Rattle.parts.specs.Parts.{Fielded};
-ghost use Rattle.lines.specs.Lined.{OfKind};
+ghost use Rattle.state.specs.Lined.{OfKind};
 ghost use Rattle.lines.specs.ClaimLines.{claimOf, ClaimSettled, ClaimLined};
-use crate::state::CLAIMED;
-use crate::state::State;
-use crate::state::Stepped;
-use crate::state::out_of_turn;
 use counts::limits::MOST_ON_SIDE;
 use parts::Fields;
 use parts::field;
 use parts::refusals::BAD_LINE;
 use rows::early::bad_sides;
 use rows::early::past;
-use rules::KIND;
-use rules::rule_number;
-use sides::members::same;
-use tables::fetch;
+use rows::last::last_is;
+use state::CLAIMED;
+use state::State;
+use state::Stepped;
+use state::out_of_turn;
 use tables::records::front;
-use tables::records::row;
 use text::lists::Listed;
 use text::lists::read_list;
-
-// Whether the last of `count` rows is an ELK row with exactly these sides.
-fn last_is<'a>(
-    rows: &[u16],
-    left: &'a [u16],
-    right: &'a [u16],
-    count: usize,
-    antecedent: &[u16],
-    succedent: &[u16],
-) -> bool
-    ensures { λ r. ⌜ ((held : List Row) → HoldsRows held (now (rows .entry)) (now (left .entry)) (now (right .entry)) → count ≡ length held
-        → r ≡ lastIs held (now (antecedent .entry)) (now (succedent .entry))) ⌝ }
-{
-    if count == 0 {
-        return false;
-    }
-    let last = count - 1;
-    let record = row(rows, last);
-    if rule_number(record.rule, KIND) != 0 {
-        return false;
-    }
-    if !same(fetch(rows, left, right, true, last), antecedent) {
-        return false;
-    }
-    same(fetch(rows, left, right, false, last), succedent)
-}
 
 // The first of the numbers 4, 7 and 9 that applies to a claim, 0 if none does.
 fn claim_number(antecedent: Listed, succedent: Listed, state: State) -> u32

@@ -3,11 +3,9 @@
 mod atom;
 mod claim;
 mod formula;
-mod numbers;
 mod row;
-pub mod state;
 
-ghost use Rattle.lines.specs.State.{tables};
+ghost use Rattle.state.specs.State.{tables};
 ghost use Rattle.lines.specs.Stepping.{LineStepped};
 use atom::atom_line;
 use claim::claim_line;

@@ -325,7 +325,7 @@ module _ (line : Bytes) (f : Fields) (i : ℕ) where
   none-by-end h = simp (lt-leb (getD (f .ends) i 0) (length line) h, and-false)
 
   -- by the fields of this line
-  field-found : Fielded line f → i < mostFields → fieldBy line f i ≡ getD (fieldsOf line) i []
+  pub field-found : Fielded line f → i < mostFields → fieldBy line f i ≡ getD (fieldsOf line) i []
   field-found p few = by-test (ltb i (f .count)) refl
     where
       by-test : (t : Bool) → ltb i (f .count) ≡ t → fieldBy line f i ≡ getD (fieldsOf line) i []

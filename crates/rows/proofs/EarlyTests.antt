@@ -6,14 +6,14 @@ use mathlib.Core.Path.{_≡_, refl, sym, ap, ap₂, subst, _∙_}
 use mathlib.Core.Bool.{Bool, true, false, not, _&&_, _||_, or-false}
 use mathlib.Core.List.{List, [], _∷_}
 use mathlib.Core.Option.{Option, none, some}
-use lib.Dec.{eqb, ltb, leb}
-use lib.ListN.{length, getD, take}
+use lib.Dec.{leb}
+use lib.ListN.{length, take}
 use borrow.Author.Tests.{le-leb, lt-leb, leb-true, leb-false, ltb-false, ne-eqb}
 use Rattle.equilibrium.specs.Meaning.{_∈_}
 use Rattle.format.specs.Text.{any, strictlyRising}
 use Rattle.format.specs.File.{Row, Body}
-use Rattle.format.specs.Tables.{absent, mostFormulas, mostOnSide}
-use Rattle.format.specs.Tests.{Test, _when_, first, notEarlier, unknownFormula, listed, badSide}
+use Rattle.format.specs.Tables.{absent, mostOnSide}
+use Rattle.format.specs.Tests.{_when_, first, notEarlier, unknownFormula, listed, badSide}
 use Rattle.format.proofs.Booleans as booleans
 use Rattle.format.proofs.Tested.{passes}
 use Rattle.format.proofs.GoodBodies.{Held, good-held}
@@ -25,10 +25,11 @@ use Rattle.text.specs.declared.lists.Listed.{Listed}
 use Rattle.counts.specs.Counts.{countsOf, fullFor}
 use Rattle.tables.specs.Holding.{Sided}
 use Rattle.counts.specs.declared.Counts.{Counts}
-use Rattle.rows.specs.Early.{pastOf, aheadOf, badOf, referencesOf, earlyOf}
-use Rattle.rows.specs.Judgement.{Narrow, Drafted, Ground, earlyTests}
+use Rattle.rows.specs.Early.{pastOf, aheadOf, earlyOf}
+use Rattle.rows.specs.Judgement.{Ground, earlyTests}
 use Rattle.rows.specs.Judging.{Judging}
-use Rattle.rows.specs.declared.draft.Draft.{Draft}
+use Rattle.drafts.specs.declared.Draft.{Draft}
+use Rattle.drafts.specs.Drafts.{Narrow, Drafted}
 
 leb-max : (h a b : ℕ) → leb h a || leb h b ≡ leb h (max a b)
 leb-max h a b = by-tests (leb h a) (leb h b) refl refl

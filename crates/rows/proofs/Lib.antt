@@ -5,3 +5,4 @@ mod PremiseKinds
 mod Seen
 mod Steps
 mod Refetched
+mod LastRow

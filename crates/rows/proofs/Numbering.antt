@@ -14,11 +14,12 @@ use Rattle.format.specs.Passing.{RowInstance}
 use Rattle.format.proofs.RowPasses.{row-passes-exactly}
 use Rattle.counts.specs.declared.Counts.{Counts}
 use Rattle.rows.specs.Early.{earlyOf, numbered}
-use Rattle.rows.specs.Judgement.{Drafted, Ground, earlyTests, RowNumbered}
+use Rattle.rows.specs.Judgement.{Ground, earlyTests, RowNumbered}
 use Rattle.rows.specs.Judging.{Judging, refusalOf}
 use Rattle.rows.specs.declared.Verdict.{Verdict}
-use Rattle.rows.specs.declared.draft.Draft.{Draft}
+use Rattle.drafts.specs.declared.Draft.{Draft}
 use Rattle.rows.proofs.EarlyTests.{early-same, ready}
+use Rattle.drafts.specs.Drafts.{Drafted}
 
 -- the first test that applies in one list, or else in another
 abbrev orElse : Option ℕ → Option ℕ → Option ℕ

@@ -20,7 +20,7 @@ use Rattle.rules.specs.RuleTable.{kindNumber, kindNumbers, truthNumber, ruleNum
 use Rattle.rules.proofs.RuleNumbers.{rule-number}
 use Rattle.schema.proofs.SchemaRule.{two-at-most}
 use Rattle.rows.specs.Judging.{namedOf, Judging}
-use Rattle.rows.specs.declared.draft.Draft.{Draft}
+use Rattle.drafts.specs.declared.Draft.{Draft}
 
 -- the kinds of the premises
 abbrev pub kindsOf : Body → Row → List Kind

@@ -2,7 +2,7 @@
 use Prim.Native.Nat.{ℕ}
 use mathlib.Core.Bool.{Bool, false}
 use mathlib.Core.List.{List, [], _∷_}
-use mathlib.Core.Path.{_≡_, refl, sym, ap, subst, _∙_}
+use mathlib.Core.Path.{_≡_, refl, subst}
 use Rattle.elk.specs.Rules.{Schema, schema, cut, unstable, entry}
 use Rattle.format.specs.File.{Row, Body}
 use Rattle.format.specs.Tables.{Side, fetched}
@@ -13,9 +13,10 @@ use Rattle.sides.specs.Members.{AllRise}
 use Rattle.cut.specs.Cut.{CutSides}
 use Rattle.schema.specs.SchemaRows.{_⊣_, SchemaAnswer}
 use Rattle.unstable.specs.Unstable.{UnstableStep}
-use Rattle.rows.specs.Judging.{principalOf, Judging}
-use Rattle.rows.specs.declared.draft.Draft.{Draft}
+use Rattle.rows.specs.Judging.{Judging}
+use Rattle.drafts.specs.declared.Draft.{Draft}
 use Rattle.rows.proofs.Steps.{cut-decided, unstable-decided, schema-decided}
+use Rattle.drafts.specs.Drafts.{principalNumber}
 
 -- what holds of four lists holds of four that are equal to them
 of-equal : (P : List ℕ → List ℕ → List ℕ → List ℕ → Type 0) {w x y z w′ x′ y′ z′ : List ℕ} → w ≡ w′ → x ≡ x′ → y ≡ y′ → z ≡ z′ → P w x y z → P w′ x′ y′ z′
@@ -28,7 +29,7 @@ module _ {b : Body} {q : Row} {formulas words rows leftPool rightPool left right
     (i k : ℕ) (is-first : i ≡ d .first) (is-second : k ≡ d .second) {l₁ r₁ l₂ r₂ : List ℕ}
     (first-left : l₁ ≡ fetched rows leftPool rightPool Side.left i) (first-right : r₁ ≡ fetched rows leftPool rightPool Side.right i)
     (second-left : l₂ ≡ fetched rows leftPool rightPool Side.left k) (second-right : r₂ ≡ fetched rows leftPool rightPool Side.right k) where
-  pub cut-refetched : entry (q .rule) ≡ cut → (p : ℕ) → p ≡ principalOf (d .principal) → (r : Bool)
+  pub cut-refetched : entry (q .rule) ≡ cut → (p : ℕ) → p ≡ principalNumber (d .principal) → (r : Bool)
       → DecidesIf (AllRise (left ∷ right ∷ l₁ ∷ r₁ ∷ l₂ ∷ r₂ ∷ [])) (CutSides p left right l₁ r₁ l₂ r₂) r → Decides (RowInstance b q) r
   cut-refetched he p hp r answer =
       cut-decided j right-premises i k is-first is-second he p hp r (
@@ -40,7 +41,7 @@ module _ {b : Body} {q : Row} {formulas words rows leftPool rightPool left right
       unstable-decided j right-premises i k is-first is-second he r (
       of-equal (λ w x y z. UnstableStep formulas words left w x y z r) first-left first-right second-left second-right answer)
 
-  pub schema-refetched : (t : Schema) → entry (q .rule) ≡ schema t → (p : ℕ) → p ≡ principalOf (d .principal) → (r : Bool)
+  pub schema-refetched : (t : Schema) → entry (q .rule) ≡ schema t → (p : ℕ) → p ≡ principalNumber (d .principal) → (r : Bool)
       → SchemaAnswer formulas (record { rule = d .rule; principal = p; count = d .premises .count; row = left ⊣ right; one = l₁ ⊣ r₁; two = l₂ ⊣ r₂ }) r
       → Decides (RowInstance b q) r
   schema-refetched t he p hp r answer =

@@ -9,10 +9,10 @@ use mathlib.Core.Logic.{_↔_}
 use lib.ListN.{length, getD, take}
 use Rattle.equilibrium.specs.Formula.{Formula}
 use Rattle.elk.specs.Sequent.{Kind, Sequent}
-use Rattle.elk.specs.Rules.{Added, Entry, Schema, schema, entry, kindOf, hasPrincipal, premiseKinds}
+use Rattle.elk.specs.Rules.{Added, Entry, entry, kindOf, hasPrincipal, premiseKinds}
 use Rattle.elk.specs.Instance.{InstanceOf}
 use Rattle.format.specs.Text.{strictlyRising, _<$>_}
-use Rattle.format.specs.File.{Node, Row, Body, decodedAt, decoded, sequentOf}
+use Rattle.format.specs.File.{Node, Row, Body, decodedAt, sequentOf}
 use Rattle.format.specs.Tables.{absent, Side, fetched}
 use Rattle.format.specs.Tests.{present, badSide, unknownFormula, listed, premisesOf, wrongPremises}
 use Rattle.format.specs.Passing.{RowInstance, RightPremises}
@@ -25,9 +25,10 @@ use Rattle.tables.specs.Records.{onSide}
 use Rattle.tables.specs.Holding.{Sided}
 use Rattle.tables.proofs.Encoded.{side-held}
 use Rattle.schema.specs.SchemaRows.{Sides, _⊣_, sequentWith}
-use Rattle.rows.specs.Judging.{principalOf, Judging}
-use Rattle.rows.specs.declared.draft.Draft.{Draft}
+use Rattle.rows.specs.Judging.{Judging}
+use Rattle.drafts.specs.declared.Draft.{Draft}
 use Rattle.rows.proofs.PremiseKinds.{premiseRow, premise-earlier, counted}
+use Rattle.drafts.specs.Drafts.{principalNumber}
 
 -- the premises of these kinds, by the sides of the first and of the second
 abbrev pub seen : List Node → List Kind → Sides → Sides → List Sequent
@@ -140,9 +141,9 @@ module _ {b : Body} {q : Row} {formulas words rows leftPool rightPool left right
         conclusion = by-sides (b .nodes) q (kindOf e) (left ⊣ right) (ap kindOf he) (ap₂ _⊣_ (sym (j .left-side)) (sym (j .right-side)))
 
   -- a principal formula that is there: its number is known, and as the table holds it
-  pub principal-number : (i : ℕ) → q .principal ≡ some i → (principalOf (d .principal) ≡ i) × (i < length (b .nodes))
+  pub principal-number : (i : ℕ) → q .principal ≡ some i → (principalNumber (d .principal) ≡ i) × (i < length (b .nodes))
   principal-number i e =
       let known : i < length (b .nodes) =
       known-earlier b (i ∷ []) (ap (λ (p : Option ℕ). unknownFormula b (listed p)) (sym e) ∙ j .principal-known) i (List·Memᴰ·head refl) in
       let small : i % 65536 ≡ i = omega (arith, good-held (j .formulas-held .good) .few-nodes) in
-      (ap principalOf (j .principal ∙ ap (λ (p : Option ℕ). principalAs (some p)) e) ∙ small, known)
+      (ap principalNumber (j .principal ∙ ap (λ (p : Option ℕ). principalAs (some p)) e) ∙ small, known)

@@ -48,8 +48,8 @@ use Rattle.literals.specs.Literals.{DefaultStep, InitialStep}
 use Rattle.schema.specs.SchemaRows.{Sides, _⊣_, Handed, SidesRise, sequentWith, OfBody, SchemaAnswer}
 use Rattle.unstable.specs.Unstable.{UnstableStep}
 use Rattle.schema.proofs.SchemaRule.{two-at-most}
-use Rattle.rows.specs.Judging.{principalOf, Judging, Premised}
-use Rattle.rows.specs.declared.draft.Draft.{Draft}
+use Rattle.rows.specs.Judging.{Judging, Premised}
+use Rattle.drafts.specs.declared.Draft.{Draft}
 use Rattle.rows.proofs.PremiseKinds.{premiseRow}
 use Rattle.rows.proofs.Seen.{
   seen,
@@ -63,6 +63,7 @@ use Rattle.rows.proofs.Seen.{
   instance-seen,
   principal-number,
 }
+use Rattle.drafts.specs.Drafts.{principalNumber}
 
 -- which rule's test runs is told by the number of its entry
 
@@ -135,13 +136,13 @@ module _ {b : Body} {q : Row} {formulas words rows leftPool rightPool left right
   none-at : {e : Entry} → entry (q .rule) ≡ e → premiseKinds e ≡ [] → (k : ℕ) → k < length (q .premises) → ⊥
   none-at he h k l = omega (arith, premise-count j right-premises he, ap length h)
 
-  principal-is : (i : ℕ) → q .principal ≡ some i → (p : ℕ) → p ≡ principalOf (d .principal) → (p ≡ i) × (p < length (b .nodes))
+  principal-is : (i : ℕ) → q .principal ≡ some i → (p : ℕ) → p ≡ principalNumber (d .principal) → (p ≡ i) × (p < length (b .nodes))
   principal-is i e p h = let n = principal-number j right-premises i e in (h ∙ n .0, subst (λ (x : ℕ). x < length (b .nodes)) (sym (h ∙ n .0)) (n .1))
 
   principal-decoded : (i p : ℕ) → q .principal ≡ some i → p ≡ i → (decodedAt (b .nodes) <$> q .principal) ≡ some (decodedAt (b .nodes) p)
   principal-decoded i p e h = ap (λ (o : Option ℕ). decodedAt (b .nodes) <$> o) e ∙ ap (λ (n : ℕ). some (decodedAt (b .nodes) n)) (sym h)
 
-  pub default-decided : entry (q .rule) ≡ default → (p : ℕ) → p ≡ principalOf (d .principal)
+  pub default-decided : entry (q .rule) ≡ default → (p : ℕ) → p ≡ principalNumber (d .principal)
       → (r : Bool) → DefaultStep formulas p left right r → Decides (RowInstance b q) r
   default-decided he p hp r answer =
       let named = principal-there j right-premises he refl in
@@ -197,7 +198,7 @@ module _ {b : Body} {q : Row} {formulas words rows leftPool rightPool left right
       pub r₂-sided : Sided b r₂
       r₂-sided = right-fetched j right-premises 1 k h second-at
 
-    pub cut-decided : entry (q .rule) ≡ cut → (p : ℕ) → p ≡ principalOf (d .principal) → (r : Bool)
+    pub cut-decided : entry (q .rule) ≡ cut → (p : ℕ) → p ≡ principalNumber (d .principal) → (r : Bool)
         → DecidesIf (AllRise (left ∷ right ∷ l₁ ∷ r₁ ∷ l₂ ∷ r₂ ∷ [])) (CutSides p left right l₁ r₁ l₂ r₂) r → Decides (RowInstance b q) r
     cut-decided he p hp r answer =
         let named = principal-there j right-premises he refl in
@@ -227,7 +228,7 @@ module _ {b : Body} {q : Row} {formulas words rows leftPool rightPool left right
         answer .decides b (decoded (b .nodes) right) (j .formulas-held) (j .atoms-known) (j .left-sided) (l₁-sided (omega arith)) (r₁-sided (omega arith))
         (l₂-sided (omega arith)) (r₂-sided (omega arith)))
 
-    pub schema-decided : (t : Schema) → entry (q .rule) ≡ schema t → (p count : ℕ) → p ≡ principalOf (d .principal) → count ≡ d .premises .count → (r : Bool)
+    pub schema-decided : (t : Schema) → entry (q .rule) ≡ schema t → (p count : ℕ) → p ≡ principalNumber (d .principal) → count ≡ d .premises .count → (r : Bool)
         → SchemaAnswer formulas (record { rule = d .rule; principal = p; count = count; row = left ⊣ right; one = l₁ ⊣ r₁; two = l₂ ⊣ r₂ }) r
         → Decides (RowInstance b q) r
     schema-decided t he p count hp hc r answer =

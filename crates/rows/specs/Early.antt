@@ -10,7 +10,7 @@ use Rattle.text.specs.declared.numbers.Optional.{Optional}
 use Rattle.text.specs.declared.lists.Listed.{Listed}
 use Rattle.counts.specs.Counts.{fullFor}
 use Rattle.counts.specs.declared.Counts.{Counts}
-use Rattle.rows.specs.declared.draft.Draft.{Draft}
+use Rattle.drafts.specs.declared.Draft.{Draft}
 
 -- some number of the list is not below `held`
 abbrev pub pastOf : Listed → ℕ → Bool

@@ -1,5 +1,5 @@
 -- A row that passed the numbers before its rule, with the sides that it is judged by.
-use Prim.Native.Nat.{ℕ, _%_, _<_}
+use Prim.Native.Nat.{ℕ, _<_}
 use mathlib.Core.Path.{_≡_}
 use mathlib.Core.Bool.{false}
 use mathlib.Core.List.{List}
@@ -15,7 +15,7 @@ use Rattle.text.specs.declared.numbers.Optional.{Optional}
 use Rattle.tables.specs.Holding.{HoldsRows, Formulas, Sided}
 use Rattle.known.specs.Known.{AtomWords}
 use Rattle.rows.specs.declared.Verdict.{Verdict}
-use Rattle.rows.specs.declared.draft.Draft.{Draft}
+use Rattle.drafts.specs.declared.Draft.{Draft}
 
 pub record Judging (b : Body) (q : Row) (formulas words rows leftPool rightPool : List ℕ) (d : Draft) (left right : List ℕ) : Type 0 where
   pub formulas-held : Formulas b formulas
@@ -38,12 +38,6 @@ abbrev pub namedOf : Optional → ℕ
 namedOf Optional.Absent = 0
 namedOf (Optional.Value i) = 1
 namedOf Optional.Bad = 0
-
--- the number of the principal formula, as a table holds it
-abbrev pub principalOf : Optional → ℕ
-principalOf Optional.Absent = absent
-principalOf (Optional.Value i) = i % 65536
-principalOf Optional.Bad = absent
 
 -- the rules that have premises, and `same`, which is of the table
 abbrev pub Premised : Entry → Type 0

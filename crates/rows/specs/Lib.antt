@@ -1,3 +1,5 @@
 pub mod Early
 pub mod Judgement
 pub mod Judging
+pub mod Storing
+pub mod Last

@@ -3,9 +3,9 @@ ghost use mathlib.Core.Path.{_≡_};
 ghost use mathlib.Core.Bool.{_||_};
 ghost use Rattle.format.specs.Tests.{first};
 ghost use Rattle.rows.specs.Early.{pastOf, aheadOf, badOf, referencesOf, earlyOf, numbered};
-use crate::draft::Draft;
 use counts::Counts;
 use counts::limits::MOST_ON_SIDE;
+use drafts::Draft;
 use text::lists::Listed;
 use text::numbers::Optional;
 

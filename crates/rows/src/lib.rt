@@ -1,9 +1,10 @@
 // One row of a derivation judged by tables that begin with a good body: room for it (5), what it refers to (7), its sides (9), its
 // premises (10), and whether it is an instance of its rule (11). Nothing is stored, and what stands after the body does not matter.
-pub mod draft;
 pub mod early;
+pub mod last;
 mod premises;
 mod step;
+pub mod store;
 
 ghost use mathlib.Core.Path.{_≡_};
 ghost use Rattle.format.specs.File.{Row, Body};
@@ -11,7 +12,7 @@ ghost use Rattle.format.specs.Tests.{first, ruleTests};
 ghost use Rattle.rows.specs.Judgement.{RowNumbered};
 ghost use Rattle.rows.specs.Judging.{Judging, refusalOf};
 use counts::Counts;
-use draft::Draft;
+use drafts::Draft;
 use early::early_number;
 use premises::wrong_premises;
 use step::step_holds;

@@ -2,14 +2,14 @@
 ghost use mathlib.Core.Path.{_≡_};
 ghost use mathlib.Core.List.{List};
 ghost use Prim.Native.Nat.{ℕ};
-ghost use Rattle.elk.specs.Rules.{Rule, entry, codeOf, kindOf};
+ghost use Rattle.elk.specs.Rules.{entry};
 ghost use Rattle.format.specs.File.{Row, Body};
 ghost use Rattle.format.specs.Tables.{rowAt};
 ghost use Rattle.format.specs.Tests.{wrongPremises};
 ghost use Rattle.tables.specs.Records.{rowOf};
-ghost use Rattle.rules.specs.RuleTable.{kindNumber, ruleNumber};
+ghost use Rattle.rules.specs.RuleTable.{ruleNumber};
 ghost use Rattle.rows.specs.Judging.{namedOf, Judging};
-use crate::draft::Draft;
+use drafts::Draft;
 use rules::FIRST_KIND;
 use rules::KIND;
 use rules::PREMISES;

@@ -1,7 +1,6 @@
 // Whether a row is an instance of its rule (number 11). The sides of its premises are fetched once, and handed to the rule.
 ghost use mathlib.Core.Path.{_≡_};
 ghost use mathlib.Core.Bool.{false};
-ghost use Prim.Native.Nat.{_≤_};
 ghost use Rattle.format.specs.File.{Row, Body};
 ghost use Rattle.format.specs.Tests.{wrongPremises};
 ghost use Rattle.format.specs.Passing.{RowInstance};
@@ -9,9 +8,9 @@ ghost use Rattle.elk.specs.Rules.{entry};
 ghost use Rattle.rules.specs.RuleTable.{stepNumber};
 ghost use Rattle.sides.specs.Deciding.{Decides};
 ghost use Rattle.rows.specs.Judging.{Judging, Premised};
-use crate::draft::Draft;
-use crate::draft::principal_number;
 use cut::cut_step;
+use drafts::Draft;
+use drafts::principal_number;
 use literals::default_step;
 use literals::initial_step;
 use rules::STEP;

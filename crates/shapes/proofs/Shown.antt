@@ -8,7 +8,7 @@ use mathlib.Core.Logic.{_≢_}
 use mathlib.Core.Path.{_≡_, refl, sym, ap, subst, _∙_}
 use borrow.Author.Tests.{eq-eqb, ne-eqb}
 use lib.ListN.{length}
-use Rattle.equilibrium.specs.Formula.{Formula, falsum, atom, neg, conj, disj, imp}
+use Rattle.equilibrium.specs.Formula.{Formula, atom, neg}
 use Rattle.equilibrium.specs.Meaning.{_∈_}
 use Rattle.format.specs.File.{Body, decodedAt, decoded}
 use Rattle.format.specs.Tests.{unknownFormula}

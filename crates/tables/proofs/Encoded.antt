@@ -1,24 +1,23 @@
 -- Tables that hold a file: the records and sides of what it lists, and zeros after them. What is read, fetched or looked for
 -- there is what was listed, and what is put right after it is listed next. Assumes nothing.
-use Prim.Native.Nat.{ℕ, suc, _+_, _-_, _*_, _≤_, _<_}
+use Prim.Native.Nat.{ℕ, suc, _+_, _*_, _≤_, _<_}
 use native.Mathlib.Nat.{le-of-lt, add-comm, mul-zero, mul-suc}
 use native.Mathlib.Omega.{arith}
-use mathlib.Core.Bool.{Bool, cond, _&&_}
+use mathlib.Core.Bool.{Bool, cond, _&&_, _||_}
 use mathlib.Core.List.{List, [], _∷_, _++_, map, append-assoc, append-nil, List·Memᴰ·head, List·Memᴰ·tail}
-use mathlib.Core.Option.{Option, some}
 use mathlib.Core.Path.{_≡_, refl, sym, ap, ap₂, _∙_}
 use borrow.Author.Tests.{le-leb}
-use lib.ListN.{length, getD, take, drop, replicate, length-append}
+use lib.ListN.{length, getD, take, drop, length-append}
 use lib.Seq.{split-at, length-take-le, take-at, drop-at}
 use Rattle.equilibrium.specs.Meaning.{_∈_}
-use Rattle.format.specs.Text.{Bytes, sameList}
+use Rattle.format.specs.Text.{Bytes, any, sameList}
 use Rattle.format.specs.File.{Node, Row, Name}
 use Rattle.elk.specs.Rules.{codeOf}
 use Rattle.format.specs.Tables.{Side, fetched, part, rowAt, padded, joinAll, nodeRecord, nameRecord}
 use Rattle.format.specs.Tables.{nameWidth, nodeWidth, rowWidth, rowRecord, recordsAfter, rowRecords}
 use Rattle.tables.specs.Records.{onSide, written, nodeAt, rowOf}
 use Rattle.tables.specs.Holding.{Begins, HoldsNodes, HoldsRows}
-use Rattle.tables.specs.Names.{firstRecords, spelled, spelledBy, placeFrom, placeOf, StandsIn}
+use Rattle.tables.specs.Names.{firstRecords, spelled, spelledBy, StandsIn}
 use Rattle.tables.proofs.Placed.{part-between, written-padded}
 
 -- a table with zeros after what it holds begins with it
@@ -104,25 +103,23 @@ node-held {nodes} b i d h =
 pub names-length : (names : List Name) → length (joinAll nameRecord names) ≡ nameWidth * length names
 names-length = joined-length nameRecord nameWidth (λ m. refl)
 
--- among names that stand in the text where their records say, a name is found by its spelling
-pub name-found : (text : Bytes) (names : List Name) (table : List ℕ) (name : Bytes) → ((m : Name) → m ∈ names → StandsIn text m)
+-- among names that stand in the text where their records say, a name is held by its spelling
+pub name-held : (text : Bytes) (names : List Name) (table : List ℕ) (name : Bytes) → ((m : Name) → m ∈ names → StandsIn text m)
     → Begins (joinAll nameRecord names) table
-    → placeOf (spelledBy text name) (firstRecords nameWidth (length names) table) ≡ placeOf (λ m. sameList (m .name) name) names
+    → any (spelledBy text name) (firstRecords nameWidth (length names) table) ≡ any (λ m. sameList (m .name) name) names
 unfolding spelled
-name-found text names table name stands held =
-    ap (λ (t : List ℕ). placeOf (spelledBy text name) (firstRecords nameWidth (length names) t)) (held .whole)
-    ∙ ap (placeOf (spelledBy text name)) (records-joined nameRecord nameWidth (λ m. refl) names (held .rest))
-    ∙ each 0 names stands
+name-held text names table name stands held =
+    ap (λ (t : List ℕ). any (spelledBy text name) (firstRecords nameWidth (length names) t)) (held .whole)
+    ∙ ap (any (spelledBy text name)) (records-joined nameRecord nameWidth (λ m. refl) names (held .rest))
+    ∙ each names stands
   where
     spelled-there : (m : Name) → StandsIn text m → spelled text (m .start) (length (m .name)) name ≡ sameList (m .name) name
     spelled-there m s = ap₂ (λ (b : Bool) (l : Bytes). b && sameList l name) (le-leb _ _ (s .inside)) (s .there)
 
-    each : (k : ℕ) (ms : List Name) → ((m : Name) → m ∈ ms → StandsIn text m)
-        → placeFrom k (spelledBy text name) (map nameRecord ms) ≡ placeFrom k (λ m. sameList (m .name) name) ms
-    each k [] h = refl
-    each k (m ∷ ms) h =
-        ap₂ (λ (b : Bool) (o : Option ℕ). cond b (some k) o) (spelled-there m (h m (List·Memᴰ·head refl)))
-        (each (suc k) ms (λ n in-ms. h n (List·Memᴰ·tail in-ms)))
+    each : (ms : List Name) → ((m : Name) → m ∈ ms → StandsIn text m)
+        → any (spelledBy text name) (map nameRecord ms) ≡ any (λ m. sameList (m .name) name) ms
+    each [] h = refl
+    each (m ∷ ms) h = ap₂ _||_ (spelled-there m (h m (List·Memᴰ·head refl))) (each ms (λ n in-ms. h n (List·Memᴰ·tail in-ms)))
 
 -- rows
 

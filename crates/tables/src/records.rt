@@ -2,7 +2,7 @@
 // its records; a count or an index may be any number. A read outside gives absent fields, and a write that does not fit
 // changes nothing.
 ghost use mathlib.Core.Path.{_≡_};
-ghost use Prim.Native.Nat.{_*_};
+ghost use Prim.Native.Nat.{_*_, _%_};
 ghost use mathlib.Core.List.{[], _∷_};
 ghost use lib.ListN.{take};
 ghost use Rattle.format.specs.Tables.{rowWidth, rowAt};
@@ -40,6 +40,20 @@ pub fn wide(x: u16) -> usize
     ensures { λ r. ⌜ r ≡ x ⌝ }
 {
     x as usize
+}
+
+// A number as a table holds it, in 16 bits; what is stored was bounded before.
+pub fn narrow(x: u32) -> u16
+    ensures { λ r. ⌜ r ≡ x % 65536 ⌝ }
+{
+    (x % 65536) as u16
+}
+
+// The same for places and lengths.
+pub fn narrow_place(x: usize) -> u16
+    ensures { λ r. ⌜ r ≡ x % 65536 ⌝ }
+{
+    (x % 65536) as u16
 }
 
 // The part of a table at a place, empty where it does not lie inside.

@@ -1,6 +1,6 @@
 -- The left side of the second premise of `unst`, in a table that begins with the formulas of a good body: the formulas that fix the
 -- choice by their shapes are ~~p for p in S and ~p for p in the rest.
-use Prim.Native.Nat.{ℕ, _-_}
+use Prim.Native.Nat.{ℕ}
 use mathlib.Core.Bool.{true, false≢true, and-eq-true-iff}
 use mathlib.Core.List.{List, _++_, map, List·Memᴰ·append-cases, Memᴰ·append-left, Memᴰ·append-right, Memᴰ·cast}
 use mathlib.Core.Logic.{_↔_, _⊎_, inl, inr, ⊎-elim}

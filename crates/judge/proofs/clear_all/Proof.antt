@@ -1,5 +1,4 @@
 -- `judge::clear_all` meets its contract: each table is cleared.
-use mathlib.Core.Path.{_≡_}
 use Rattle.judge.specs.Contract.{five, lengths, clear}
 use Rattle.judge.proofs.Whole.{all-zeros}
 use borrow.Author.Needs.{needs}

@@ -7,8 +7,8 @@ use lib.ListN.{length}
 use Rattle.format.specs.Text.{lineFeed}
 use Rattle.parts.specs.Parts.{nextAt}
 use Rattle.parts.proofs.PartLaws.{next-bounds}
-use Rattle.lines.specs.State.{tables}
-use Rattle.lines.specs.declared.state.State.{State}
+use Rattle.state.specs.State.{tables}
+use Rattle.state.specs.declared.State.{State}
 use Rattle.judge.specs.Running.{Running}
 use Rattle.judge.proofs.Running.{running-start, running-next, runs-refused, runs-out}
 use Rattle.judge.proofs.run.Statement.{statement}

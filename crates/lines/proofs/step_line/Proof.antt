@@ -3,7 +3,7 @@ use native.Mathlib.Omega.{arith}
 use mathlib.Core.List.{[]}
 use borrow.Author.Needs.{needs}
 use Rattle.keywords.specs.declared.Kind.the-variants.{Atom, Formula, Row, Claim, Unknown}
-use Rattle.lines.specs.State.{tables}
+use Rattle.state.specs.State.{tables}
 use Rattle.lines.proofs.Dispatch.{kind-is, stepped-outside, stepped, stepped-unknown}
 use Rattle.lines.proofs.step_line.Statement.{statement}
 use Rattle.lines.proofs.step_line.Tie as tie

@@ -41,8 +41,8 @@ returns-4 c =
     let looked = c .before .before in
     let named = looked .before .before in
     let order = named .before .before in
-    atom-used _ _ _ _ _ (sym (order .before .out-of-order .ensures) ∙ order .if1 .left) (named .before .if2 .left) _
-    (sym (looked .find-name .ensures) ∙ c .enum-told .given .1)
+    atom-used _ _ _ _ _ (sym (order .before .out-of-order .ensures) ∙ order .if1 .left) (named .before .if2 .left)
+    (looked .find-name .ensures) _ (c .enum-told .given .1)
 
 returns-5 : tie.Need-returns-5
 returns-5 c =
@@ -50,8 +50,8 @@ returns-5 c =
     let named = looked .before .before in
     let order = named .before .before in
     atom-new _ _ _ _ _ (sym (order .before .out-of-order .ensures) ∙ order .if1 .left) (named .before .if2 .left)
-    (sym (named .is-name .ensures) ∙ not-false (named .is-name .result) (looked .before .if3 .left))
-    (sym (looked .find-name .ensures) ∙ c .enum-told2 .given .1)
+    (looked .find-name .ensures) (sym (named .is-name .ensures) ∙ not-false (named .is-name .result) (looked .before .if3 .left))
+    (c .enum-told2 .given .1)
 
 pub atom-number-spec : {M : Type 1} → statement M
 atom-number-spec =

@@ -33,7 +33,7 @@ returns-2 c =
     let told = c .before .before in
     let called = told .before .before .before .before in
     settled-differs _ _ _ _ _ _ _ _ _ _ _ (called .before .claim-number .ensures) (called .if1 .left) _
-    (λ held holds e. told .last-is .ensures held holds e ∙ ap₂ (lastIs held) (told .before .before .front .ensures) (told .before .front2 .ensures))
+    (λ held holds e. told .last-is .ensures .held held holds e ∙ ap₂ (lastIs held) (told .before .before .front .ensures) (told .before .front2 .ensures))
     (not-true (told .last-is .result) (c .before .if2 .taken)) (c .refused2 .ensures)
 
 returns-3 : tie.Need-returns-3
@@ -41,7 +41,7 @@ returns-3 c =
     let told = c .before in
     let called = told .before .before .before .before in
     settled-claimed _ _ _ _ _ _ _ _ _ _ _ (called .before .claim-number .ensures) (called .if1 .left) _
-    (λ held holds e. told .last-is .ensures held holds e ∙ ap₂ (lastIs held) (told .before .before .front .ensures) (told .before .front2 .ensures))
+    (λ held holds e. told .last-is .ensures .held held holds e ∙ ap₂ (lastIs held) (told .before .before .front .ensures) (told .before .front2 .ensures))
     (not-false (told .last-is .result) (c .if2 .left)) refl
 
 pub settle-claim-spec : {M : Type 1} → statement M

@@ -43,7 +43,7 @@ returns-2 c text start t =
     let counted = read .before .before .before .before in
     let own = counted .before .before .before .before .before .before .before .before in
     line-bad (withRows t _ _ _ _ _)
-    (row-unread (own .args .line .now) (own .pre .1) (sym (own .pre .0 .counted) ∙ counted .if1 .left) (read .read-row .ensures)
+    (row-unread (own .args .line .now) (own .pre .1) _ (own .pre .0) (counted .if1 .left) (read .read-row .ensures)
     (sym (told .is-well .ensures) ∙ not-true (told .is-well .result) (c .before .if2 .taken)))
     (c .refused2 .ensures)
 
@@ -75,7 +75,7 @@ returns-3 c text start t =
     let own = counted .before .before .before .before .before .before .before .before in
     let line = own .args .line .now in
     let found =
-    row-found line (own .pre .1) (sym (own .pre .0 .counted) ∙ counted .if1 .left) (read .read-row .ensures)
+    row-found line (own .pre .1) _ (own .pre .0) (counted .if1 .left) (read .read-row .ensures)
     (sym (told .is-well .ensures) ∙ not-false (told .is-well .result) (well .if2 .left)) refl (lit≤ tt) (lit≤ tt) in
     settled .settle-row .ensures .lined text line start (found .0) (found .1) t (found .2) (found .3)
 

@@ -1,9 +1,8 @@
 -- `rows::step::premised_step` meets its contract: the sides that are fetched are those of the premises. Assumes nothing.
-use mathlib.Core.Path.{sym, ap, subst, _∙_}
-use mathlib.Core.Bool.{true, false}
+use mathlib.Core.Path.{sym, _∙_}
 use borrow.Author.Needs.{needs}
 use Rattle.elk.specs.Rules.{entry}
-use Rattle.rows.proofs.Steps.{is-cut, is-unstable, is-schema, cut-decided, unstable-decided, schema-decided}
+use Rattle.rows.proofs.Steps.{is-cut, is-unstable, is-schema}
 use Rattle.rows.proofs.Refetched.{cut-refetched, unstable-refetched, schema-refetched}
 use Rattle.rows.proofs.step.premised_step.Statement.{statement}
 use Rattle.rows.proofs.step.premised_step.Tie as tie
