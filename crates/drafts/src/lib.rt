@@ -1,5 +1,7 @@
-// A row as it was read out of its line, on its way to its number: its fields, whether they are well written, and the draft that it
-// is judged by.
+// A row as it was read out of its line, on its way to its number: its fields, whether they are well written, the draft that it
+// is judged by, and what is stored of it.
+pub mod store;
+
 ghost use mathlib.Core.Path.{_≡_};
 ghost use Rattle.parts.specs.Parts.{fieldBy};
 ghost use Rattle.drafts.specs.Drafts.{RowInto, isNumber, isBad, wellOf, draftOf, principalNumber};

@@ -33,7 +33,7 @@ use Rattle.counts.specs.declared.Counts.{Counts}
 use Rattle.tables.specs.declared.names.Found.{Found}
 use Rattle.counts.proofs.Counting.{counts-atom}
 use Rattle.tables.proofs.Encoded.{begins-padded, names-length, name-held}
-use Rattle.rows.specs.Early.{numbered}
+use Rattle.early.specs.Early.{numbered}
 use Rattle.state.specs.State.{refusedBy, passedBy, notNext, Memory, Exactly, Stored}
 use Rattle.state.specs.Lined.{OfKind}
 use Rattle.lines.specs.AtomLines.{AtomNumbered, AtomLined, withNames}

@@ -23,7 +23,7 @@ use Rattle.text.specs.Lists.{listedAs, ListedInto}
 use Rattle.text.specs.declared.lists.Listed.{Listed}
 use Rattle.tables.specs.Holding.{HoldsRows}
 use Rattle.counts.specs.declared.Counts.{Counts}
-use Rattle.rows.specs.Early.{pastOf, numbered}
+use Rattle.early.specs.Early.{pastOf, numbered}
 use Rattle.rows.proofs.EarlyTests.{past-listed}
 use Rattle.rows.proofs.Numbering.{first-append, numbered-some}
 use Rattle.state.specs.State.{refusedBy, Memory, Stored}

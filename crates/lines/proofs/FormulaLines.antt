@@ -37,7 +37,7 @@ use Rattle.known.proofs.Knowing.{known-more}
 use Rattle.state.specs.State.{refusedBy, passedBy, notNext, Memory, Exactly, Stored}
 use Rattle.state.specs.Lined.{OfKind, Lined}
 use Rattle.lines.specs.FormulaLines.{writtenAs, narrowed, aheadIn, FormulaNumbered, FormulaLined, withFormulas}
-use Rattle.rows.specs.Early.{numbered}
+use Rattle.early.specs.Early.{numbered}
 use Rattle.state.specs.declared.State.{State}
 use Rattle.state.specs.declared.Stepped.{Stepped}
 use Rattle.lines.specs.declared.formula.Written.{Written}

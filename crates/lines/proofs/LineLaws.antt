@@ -41,7 +41,7 @@ use Rattle.text.specs.declared.lists.Listed.{Listed}
 use Rattle.tables.specs.Records.{written}
 use Rattle.tables.specs.Holding.{HoldsNodes, HoldsRows}
 use Rattle.tables.proofs.Encoded.{begins-padded, put-encoded}
-use Rattle.rows.specs.Early.{numbered}
+use Rattle.early.specs.Early.{numbered}
 use Rattle.rows.specs.Judgement.{Ground}
 use Rattle.state.specs.State.{refusedBy, Memory, SameLengths, Exactly, Stored, Steps, Keeps}
 use Rattle.state.specs.Lined.{OfKind, Lined}

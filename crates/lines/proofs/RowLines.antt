@@ -34,7 +34,7 @@ use Rattle.tables.specs.Records.{written, rowNumbers}
 use Rattle.counts.specs.declared.Counts.{Counts}
 use Rattle.counts.proofs.Counting.{counts-row}
 use Rattle.tables.proofs.Encoded.{put-row-encoded}
-use Rattle.rows.specs.Early.{numbered}
+use Rattle.early.specs.Early.{numbered}
 use Rattle.rows.specs.Judgement.{RowNumbered}
 use Rattle.drafts.specs.declared.Draft.{Draft}
 use Rattle.rows.proofs.Numbering.{numbered-some, numbered-none}
@@ -45,7 +45,7 @@ use Rattle.state.specs.declared.State.{State}
 use Rattle.state.specs.declared.Stepped.{Stepped}
 use Rattle.lines.proofs.LineLaws.{rowWritten, line-row, keeps-refused, keeps-passed, steps-next, line-refused, written-length, put-exactly, ground, list-laid}
 use Rattle.drafts.specs.Drafts.{Narrow, Laid, Drafted, principalNumber, readAs, rowRead, RowInto, isBad, wellOf, draftOf, RowLaid}
-use Rattle.rows.specs.Storing.{recordOf, RowStored}
+use Rattle.drafts.specs.Storing.{recordOf, RowStored}
 use Rattle.drafts.specs.declared.RowRead.{RowRead}
 use Rattle.state.proofs.Order.{order-same}
 

@@ -11,7 +11,7 @@ use Rattle.format.specs.Tables.{joinAll, nameRecord, mostAtoms}
 use Rattle.format.specs.Tests.{rank, first, atomTests}
 use Rattle.tables.specs.Holding.{Begins}
 use Rattle.tables.specs.Names.{StandsIn}
-use Rattle.rows.specs.Early.{numbered}
+use Rattle.early.specs.Early.{numbered}
 use Rattle.state.specs.State.{Memory}
 use Rattle.state.specs.Lined.{Lined}
 use Rattle.state.specs.declared.State.{State}

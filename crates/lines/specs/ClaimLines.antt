@@ -8,7 +8,7 @@ use Rattle.format.specs.Text.{Bytes}
 use Rattle.format.specs.Line.{claimLine, lineOf}
 use Rattle.format.specs.Tests.{Test, _when_}
 use Rattle.text.specs.declared.lists.Listed.{Listed}
-use Rattle.rows.specs.Early.{pastOf, badOf}
+use Rattle.early.specs.Early.{pastOf, badOf}
 use Rattle.state.specs.State.{outOfTurn, Memory, Keeps}
 use Rattle.state.specs.Lined.{Lined}
 use Rattle.state.specs.declared.State.{State}

@@ -13,7 +13,7 @@ use Rattle.format.specs.Tables.{nodeRecord, mostFormulas}
 use Rattle.format.specs.Tests.{Test, _when_, first}
 use Rattle.counts.specs.declared.Counts.{Counts}
 use Rattle.tables.specs.declared.records.NodeRecord.{NodeRecord}
-use Rattle.rows.specs.Early.{numbered}
+use Rattle.early.specs.Early.{numbered}
 use Rattle.state.specs.State.{notNext, Memory}
 use Rattle.state.specs.Lined.{Lined}
 use Rattle.state.specs.declared.State.{State}

@@ -1,16 +1,16 @@
 // The C line.
 ghost use mathlib.Core.Path.{_≡_};
 ghost use Rattle.format.specs.Tests.{first};
-ghost use Rattle.rows.specs.Early.{numbered};
+ghost use Rattle.early.specs.Early.{numbered};
 ghost use Rattle.parts.specs.Parts.{Fielded};
 ghost use Rattle.state.specs.Lined.{OfKind};
 ghost use Rattle.lines.specs.ClaimLines.{claimOf, ClaimSettled, ClaimLined};
 use counts::limits::MOST_ON_SIDE;
+use early::bad_sides;
+use early::past;
 use parts::Fields;
 use parts::field;
 use parts::refusals::BAD_LINE;
-use rows::early::bad_sides;
-use rows::early::past;
 use rows::last::last_is;
 use state::CLAIMED;
 use state::State;

@@ -25,7 +25,7 @@ use Rattle.text.specs.declared.lists.Listed.{Listed}
 use Rattle.counts.specs.Counts.{countsOf, fullFor}
 use Rattle.tables.specs.Holding.{Sided}
 use Rattle.counts.specs.declared.Counts.{Counts}
-use Rattle.rows.specs.Early.{pastOf, aheadOf, earlyOf}
+use Rattle.early.specs.Early.{pastOf, aheadOf, earlyOf}
 use Rattle.rows.specs.Judgement.{Ground, earlyTests}
 use Rattle.rows.specs.Judging.{Judging}
 use Rattle.drafts.specs.declared.Draft.{Draft}

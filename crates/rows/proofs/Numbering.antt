@@ -13,7 +13,7 @@ use Rattle.format.specs.Tests.{Test, first, wrongPremises, wrongStep, ruleTests
 use Rattle.format.specs.Passing.{RowInstance}
 use Rattle.format.proofs.RowPasses.{row-passes-exactly}
 use Rattle.counts.specs.declared.Counts.{Counts}
-use Rattle.rows.specs.Early.{earlyOf, numbered}
+use Rattle.early.specs.Early.{earlyOf, numbered}
 use Rattle.rows.specs.Judgement.{Ground, earlyTests, RowNumbered}
 use Rattle.rows.specs.Judging.{Judging, refusalOf}
 use Rattle.rows.specs.declared.Verdict.{Verdict}

@@ -14,7 +14,7 @@ use Rattle.tables.specs.Holding.{HoldsNodes, HoldsRows}
 use Rattle.known.specs.Known.{Known}
 use Rattle.counts.specs.declared.Counts.{Counts}
 use Rattle.drafts.specs.Drafts.{Drafted}
-use Rattle.rows.specs.Early.{earlyOf, numbered}
+use Rattle.early.specs.Early.{earlyOf, numbered}
 use Rattle.drafts.specs.declared.Draft.{Draft}
 
 -- the tables, and what is known of the formulas, are those of a good body with these counts

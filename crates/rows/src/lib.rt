@@ -1,10 +1,8 @@
 // One row of a derivation judged by tables that begin with a good body: room for it (5), what it refers to (7), its sides (9), its
 // premises (10), and whether it is an instance of its rule (11). Nothing is stored, and what stands after the body does not matter.
-pub mod early;
 pub mod last;
 mod premises;
 mod step;
-pub mod store;
 
 ghost use mathlib.Core.Path.{_≡_};
 ghost use Rattle.format.specs.File.{Row, Body};

@@ -1,10 +1,10 @@
--- `rows::early::ahead` meets its contract. Assumes nothing.
+-- `early::ahead` meets its contract. Assumes nothing.
 use mathlib.Core.Path.{sym, ap}
 use borrow.Author.Needs.{needs}
 use Rattle.text.specs.declared.numbers.Optional.{Optional}
-use Rattle.rows.specs.Early.{aheadOf}
-use Rattle.rows.proofs.early.ahead.Statement.{statement}
-use Rattle.rows.proofs.early.ahead.Tie as tie
+use Rattle.early.specs.Early.{aheadOf}
+use Rattle.early.proofs.ahead.Statement.{statement}
+use Rattle.early.proofs.ahead.Tie as tie
 
 enum-told : tie.Need-enum-told
 enum-told c = search needs

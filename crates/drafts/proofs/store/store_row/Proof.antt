@@ -1,12 +1,12 @@
--- `rows::store::store_row` meets its contract. Assumes nothing.
+-- `drafts::store::store_row` meets its contract. Assumes nothing.
 use Prim.Native.Nat.{_*_}
 use mathlib.Core.Path.{ap, _∙_}
 use Rattle.format.specs.Tables.{rowWidth}
 use Rattle.tables.specs.Records.{written, rowNumbers}
 use Rattle.tables.specs.declared.records.RowRecord.{RowRecord}
 use borrow.Author.Needs.{needs}
-use Rattle.rows.proofs.store.store_row.Statement.{statement}
-use Rattle.rows.proofs.store.store_row.Tie as tie
+use Rattle.drafts.proofs.store.store_row.Statement.{statement}
+use Rattle.drafts.proofs.store.store_row.Tie as tie
 
 recorded-requires : tie.Need-recorded-requires
 recorded-requires c κs = search needs

@@ -1,7 +1,7 @@
--- `rows::early::bad_side` meets its contract. Assumes nothing.
+-- `early::bad_side` meets its contract. Assumes nothing.
 use borrow.Author.Needs.{needs}
-use Rattle.rows.proofs.early.bad_side.Statement.{statement}
-use Rattle.rows.proofs.early.bad_side.Tie as tie
+use Rattle.early.proofs.bad_side.Statement.{statement}
+use Rattle.early.proofs.bad_side.Tie as tie
 
 returns : tie.Need-returns
 returns c = search needs

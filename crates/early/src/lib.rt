@@ -2,7 +2,7 @@
 ghost use mathlib.Core.Path.{_≡_};
 ghost use mathlib.Core.Bool.{_||_};
 ghost use Rattle.format.specs.Tests.{first};
-ghost use Rattle.rows.specs.Early.{pastOf, aheadOf, badOf, referencesOf, earlyOf, numbered};
+ghost use Rattle.early.specs.Early.{pastOf, aheadOf, badOf, referencesOf, earlyOf, numbered};
 use counts::Counts;
 use counts::limits::MOST_ON_SIDE;
 use drafts::Draft;
@@ -71,7 +71,7 @@ fn refers_ahead(draft: Draft, counts: Counts) -> bool
 }
 
 // The first of the numbers 5, 7 and 9 that applies, 0 if none does.
-pub(crate) fn early_number(draft: Draft, counts: Counts) -> u32
+pub fn early_number(draft: Draft, counts: Counts) -> u32
     ensures { λ r. ⌜ numbered r ≡ first (earlyOf draft counts) ⌝ }
 {
     let left = draft.left;

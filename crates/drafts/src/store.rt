@@ -1,9 +1,9 @@
 // A row stored, after it has passed: the one place that writes rows and sides.
 ghost use mathlib.Core.Path.{_≡_};
-ghost use Rattle.rows.specs.Storing.{recordOf, RowStored};
+ghost use Rattle.drafts.specs.Storing.{recordOf, RowStored};
+use crate::Draft;
+use crate::principal_number;
 use counts::Counts;
-use drafts::Draft;
-use drafts::principal_number;
 use tables::records::RowRecord;
 use tables::records::front;
 use tables::records::narrow_place;

@@ -1,8 +1,8 @@
--- `rows::early::bad_sides` meets its contract. Assumes nothing.
+-- `early::bad_sides` meets its contract. Assumes nothing.
 use mathlib.Core.Path.{sym, _∙_}
 use borrow.Author.Needs.{needs}
-use Rattle.rows.proofs.early.bad_sides.Statement.{statement}
-use Rattle.rows.proofs.early.bad_sides.Tie as tie
+use Rattle.early.proofs.bad_sides.Statement.{statement}
+use Rattle.early.proofs.bad_sides.Tie as tie
 
 bad-side-requires : tie.Need-bad-side-requires
 bad-side-requires c κs = search needs

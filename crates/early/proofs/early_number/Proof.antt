@@ -1,8 +1,8 @@
--- `rows::early::early_number` meets its contract. Assumes nothing.
+-- `early::early_number` meets its contract. Assumes nothing.
 use mathlib.Core.Path.{sym, _∙_}
 use borrow.Author.Needs.{needs}
-use Rattle.rows.proofs.early.early_number.Statement.{statement}
-use Rattle.rows.proofs.early.early_number.Tie as tie
+use Rattle.early.proofs.early_number.Statement.{statement}
+use Rattle.early.proofs.early_number.Tie as tie
 
 is-full-requires : tie.Need-is-full-requires
 is-full-requires c κs = search needs

@@ -1,8 +1,8 @@
--- `rows::early::refers_ahead` meets its contract. Assumes nothing.
+-- `early::refers_ahead` meets its contract. Assumes nothing.
 use mathlib.Core.Path.{sym, _∙_}
 use borrow.Author.Needs.{needs}
-use Rattle.rows.proofs.early.refers_ahead.Statement.{statement}
-use Rattle.rows.proofs.early.refers_ahead.Tie as tie
+use Rattle.early.proofs.refers_ahead.Statement.{statement}
+use Rattle.early.proofs.refers_ahead.Tie as tie
 
 ahead-requires : tie.Need-ahead-requires
 ahead-requires c κs = search needs

@@ -1,7 +1,7 @@
--- `rows::store::recorded` meets its contract. Assumes nothing.
+-- `drafts::store::recorded` meets its contract. Assumes nothing.
 use borrow.Author.Needs.{needs}
-use Rattle.rows.proofs.store.recorded.Statement.{statement}
-use Rattle.rows.proofs.store.recorded.Tie as tie
+use Rattle.drafts.proofs.store.recorded.Statement.{statement}
+use Rattle.drafts.proofs.store.recorded.Tie as tie
 
 principal-number-requires : tie.Need-principal-number-requires
 principal-number-requires c κs = search needs

@@ -1,8 +1,8 @@
--- `rows::early::past` meets its contract. Assumes nothing.
+-- `early::past` meets its contract. Assumes nothing.
 use borrow.Author.Needs.{needs}
 use borrow.Author.Tests.{eq-eqb, ne-eqb}
-use Rattle.rows.proofs.early.past.Statement.{statement}
-use Rattle.rows.proofs.early.past.Tie as tie
+use Rattle.early.proofs.past.Statement.{statement}
+use Rattle.early.proofs.past.Tie as tie
 
 returns : tie.Need-returns
 returns c = rw (eq-eqb _ _ (c .if1 .taken))
