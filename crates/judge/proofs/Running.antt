@@ -29,9 +29,9 @@ use Rattle.judge.specs.declared.Ran.{Ran}
 
 -- before the first line, in clear tables
 pub running-start : (text : Bytes) (t : Memory) → Full t → Zeros (five (t .names) (t .formulas) (t .rows) (t .left) (t .right))
-    → t .words ≡ replicate (length (t .words)) 0 → Running text 1 0 start t
+    → t .notes ≡ replicate (length (t .notes)) 0 → Running text 1 0 start t
 unfolding beginning
-running-start text t full zeros no-words =
+running-start text t full zeros no-notes =
     record {
       done = [];
       file = noFile;
@@ -48,7 +48,7 @@ running-start text t full zeros no-words =
             known =
                 record {
                   atoms = λ i h. absurd (omega arith);
-                  index = index-none (t .words) (λ i. ap (λ (l : List ℕ). getD l i 0) no-words ∙ all-zero (length (t .words)) i);
+                  index = index-none (t .notes) (λ i. ap (λ (l : List ℕ). getD l i 0) no-notes ∙ all-zero (length (t .notes)) i);
                 };
             rows = empty (t .rows) (ap (λ (c : Tables.Contents). c .rows) zeros);
             left = empty (t .left) (ap (λ (c : Tables.Contents). c .left) zeros);

@@ -106,7 +106,7 @@ module _ {text : Bytes} {t : Contents} {answer : Answer} (ran : Accepts text t a
 
 -- tables that are long enough are full
 pub long-enough : (t : Memory) → tooShort (lengths (five (t .names) (t .formulas) (t .rows) (t .left) (t .right))) ≡ false
-    → 3 * mostFormulas ≤ length (t .words) → Full t
+    → 3 * mostFormulas ≤ length (t .notes) → Full t
 unfolding tooShort
 long-enough t e w =
     let fifth = or-false (names || formulas || rows || left) right e in
@@ -116,7 +116,7 @@ long-enough t e w =
     record {
       names = ltb-false (length (t .names)) (least .names) (second .0);
       formulas = ltb-false (length (t .formulas)) (least .formulas) (second .1);
-      words = w;
+      notes = w;
       rows = ltb-false (length (t .rows)) (least .rows) (third .1);
       left = ltb-false (length (t .left)) (least .left) (fourth .1);
       right = ltb-false (length (t .right)) (least .right) (fifth .1);

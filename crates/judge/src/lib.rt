@@ -46,17 +46,17 @@ fn run(
     text: &[u8],
     names: &mut [u16],
     formulas: &mut [u16],
-    words: &mut [u64],
+    notes: &mut [u64],
     rows: &mut [u16],
     left: &mut [u16],
     right: &mut [u16],
 ) -> Ran
     requires { ⌜ (length (now text) ≤ mostBytes)
-        × Full (tables (now names) (now formulas) (now words) (now rows) (now left) (now right))
+        × Full (tables (now names) (now formulas) (now notes) (now rows) (now left) (now right))
         × Zeros (five (now names) (now formulas) (now rows) (now left) (now right))
-        × (now words ≡ replicate (length (now words)) 0) ⌝ }
+        × (now notes ≡ replicate (length (now notes)) 0) ⌝ }
     ensures { λ r. ⌜ Runs (now (text .entry)) r
-        (tables (now (names .exit)) (now (formulas .exit)) (now (words .exit)) (now (rows .exit)) (now (left .exit)) (now (right .exit))) ⌝ }
+        (tables (now (names .exit)) (now (formulas .exit)) (now (notes .exit)) (now (rows .exit)) (now (left .exit)) (now (right .exit))) ⌝ }
 {
     let mut state = State::start();
     let mut at: usize = 0;
@@ -70,7 +70,7 @@ fn run(
             line,
             names,
             formulas,
-            words,
+            notes,
             rows,
             left,
             right,
@@ -179,8 +179,8 @@ fn run_or_clear(
         ⊎ (Refuses (now (text .entry)) r
         × Zeros (five (now (names .exit)) (now (formulas .exit)) (now (rows .exit)) (now (left .exit)) (now (right .exit)))) ⌝ }
 {
-    let mut words = [0u64; 3072];
-    let ran = run(text, names, formulas, &mut words, rows, left, right);
+    let mut notes = [0u64; 3072];
+    let ran = run(text, names, formulas, &mut notes, rows, left, right);
     let answer = finish(text, ran);
     if answer.number == 0 {
         return answer;

@@ -33,20 +33,20 @@ again nodes key = any (λ m. sameList (nodeRecord m) (nodeNumbers key)) nodes
 abbrev number : Bool → Bool → Option ℕ
 number over same = first ((5 when over) ∷ (8 when same) ∷ [])
 
-module _ {formulas words : List ℕ} (nodes : List Node) (holds : HoldsNodes nodes formulas) (index : Indexed nodes words) where
-  found-again : (key : NodeRecord) (i : ℕ) → NodeFound formulas words (nodeNumbers key) (some i) → again nodes key ≡ true
+module _ {formulas notes : List ℕ} (nodes : List Node) (holds : HoldsNodes nodes formulas) (index : Indexed nodes notes) where
+  found-again : (key : NodeRecord) (i : ℕ) → NodeFound formulas notes (nodeNumbers key) (some i) → again nodes key ≡ true
   found-again key i found =
       let inside = found .within nodes holds index i refl in
       let same : nodeRecord (getD nodes i Node.bot) ≡ nodeNumbers key = sym (record-there holds i inside) ∙ found .there i refl in
       any-at (λ m. sameList (nodeRecord m) (nodeNumbers key)) nodes i Node.bot inside
       (ap (λ (l : List ℕ). sameList l (nodeNumbers key)) same ∙ list-same (nodeNumbers key))
 
-  refusal-is : {count : ℕ} {key : NodeRecord} {formulas′ words′ : List ℕ} {r : Entry} → Enters formulas words count key formulas′ words′ r
+  refusal-is : {count : ℕ} {key : NodeRecord} {formulas′ notes′ : List ℕ} {r : Entry} → Enters formulas notes count key formulas′ notes′ r
       → entryRefusal r ≡ number (leb mostFormulas count) (again nodes key)
   refusal-is {key} (full most f w) = sym (ap (λ (b : Bool). number b (again nodes key)) (le-leb _ _ most))
   refusal-is {key} (held i few found f w) = sym (ap₂ number (lt-leb _ _ few) (found-again key i found))
   refusal-is (new few found more) = sym (ap₂ number (lt-leb _ _ few) (found .missing nodes holds index refl))
 
-pub formula-entered : {formulas words : List ℕ} {count : ℕ} {key : NodeRecord} {formulas′ words′ : List ℕ} {r : Entry}
-    → Enters formulas words count key formulas′ words′ r → FormulaEntered formulas words count key formulas′ words′ r
+pub formula-entered : {formulas notes : List ℕ} {count : ℕ} {key : NodeRecord} {formulas′ notes′ : List ℕ} {r : Entry}
+    → Enters formulas notes count key formulas′ notes′ r → FormulaEntered formulas notes count key formulas′ notes′ r
 formula-entered entry = record { entry = entry; refusal = λ nodes holds index. refusal-is nodes holds index entry }

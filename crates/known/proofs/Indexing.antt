@@ -15,7 +15,7 @@ use Rattle.format.specs.File.{Node}
 use Rattle.format.specs.Tables.{nodeRecord}
 use Rattle.tables.specs.Records.{nodeAt, recordFrom, nodeNumbers}
 use Rattle.tables.specs.Holding.{HoldsNodes}
-use Rattle.known.specs.Index.{slotWords, formulaWords, slotOf, slotAt, Last, Indexed, entered, NodeFound}
+use Rattle.known.specs.Index.{slotNotes, formulaNotes, slotOf, slotAt, Last, Indexed, entered, NodeFound}
 use Rattle.format.proofs.Equal.{same-false}
 use Rattle.tables.proofs.Encoded.{node-held}
 
@@ -49,17 +49,17 @@ module _ (nodes : List Node) (numbers : List ℕ) where
   walk-ended : Cursor nodes numbers 0 → any (λ m. sameList (nodeRecord m) numbers) nodes ≡ false
   walk-ended c = any-none (λ m. sameList (nodeRecord m) numbers) nodes Node.bot (λ i h. same-false _ _ (λ e. omega (arith, c .earlier i h e)))
 
-  module _ (words : List ℕ) (index : Indexed nodes words) where
-    pub walk-start : Cursor nodes numbers (getD words (slotWords + slotOf numbers) 0)
+  module _ (notes : List ℕ) (index : Indexed nodes notes) where
+    pub walk-start : Cursor nodes numbers (getD notes (slotNotes + slotOf numbers) 0)
     walk-start =
         let last = index .slots (slotOf numbers) (omega arith) in
         record { within = last .within; of-slot = last .of-slot; earlier = λ j h e. last .none-later j h (ap slotOf e) }
 
-    pub walk-falls : (i : ℕ) → Cursor nodes numbers (suc i) → getD words (formulaWords + i) 0 ≤ i
+    pub walk-falls : (i : ℕ) → Cursor nodes numbers (suc i) → getD notes (formulaNotes + i) 0 ≤ i
     walk-falls i c = index .formulas i (omega (arith, c .within)) .within
 
     pub walk-next : (i : ℕ) → Cursor nodes numbers (suc i) → (nodeRecord (getD nodes i Node.bot) ≡ numbers → ⊥)
-        → Cursor nodes numbers (getD words (formulaWords + i) 0)
+        → Cursor nodes numbers (getD notes (formulaNotes + i) 0)
     walk-next i c other =
         let last = index .formulas i (omega (arith, c .within)) in
         let slot = c .of-slot i refl in
@@ -73,9 +73,9 @@ module _ (nodes : List Node) (numbers : List ℕ) where
         before j h e = let apart : j ≡ i → ⊥ = λ k. other (ap (λ (n : ℕ). nodeRecord (getD nodes n Node.bot)) (sym k) ∙ e) in omega arith
 
 -- the two answers of the walk
-module _ (formulas words numbers : List ℕ) where
+module _ (formulas notes numbers : List ℕ) where
   pub found-at : (at : ℕ) → nodeNumbers (recordFrom (nodeAt formulas at)) ≡ numbers
-      → ((nodes : List Node) → HoldsNodes nodes formulas → Indexed nodes words → at < length nodes) → NodeFound formulas words numbers (some at)
+      → ((nodes : List Node) → HoldsNodes nodes formulas → Indexed nodes notes → at < length nodes) → NodeFound formulas notes numbers (some at)
   found-at at same inside =
       record {
         there = λ i e. let k : at ≡ i = cc in ap (λ (n : ℕ). nodeNumbers (recordFrom (nodeAt formulas n))) (sym k) ∙ same;
@@ -83,8 +83,8 @@ module _ (formulas words numbers : List ℕ) where
         missing = λ nodes held index e. let z : _≡_ {A = ℕ} 0 1 = cc in absurd (omega arith);
       }
 
-  pub found-nowhere : ((nodes : List Node) → HoldsNodes nodes formulas → Indexed nodes words → Cursor nodes numbers 0)
-      → NodeFound formulas words numbers none
+  pub found-nowhere : ((nodes : List Node) → HoldsNodes nodes formulas → Indexed nodes notes → Cursor nodes numbers 0)
+      → NodeFound formulas notes numbers none
   found-nowhere ended =
       record {
         there = λ i e. let z : _≡_ {A = ℕ} 0 1 = cc in absurd (omega arith);
@@ -94,25 +94,25 @@ module _ (formulas words numbers : List ℕ) where
 
 -- ---- the index of no formula, and with one more
 
-pub index-none : (words : List ℕ) → ((i : ℕ) → getD words i 0 ≡ 0) → Indexed [] words
-index-none words zeros =
+pub index-none : (notes : List ℕ) → ((i : ℕ) → getD notes i 0 ≡ 0) → Indexed [] notes
+index-none notes zeros =
     record {
       few = omega arith;
       slots = λ s h. record {
         none-later = λ j l e. absurd (omega arith);
-        within = omega (arith, zeros (slotWords + s));
-        of-slot = λ i e. absurd (omega (arith, zeros (slotWords + s)));
+        within = omega (arith, zeros (slotNotes + s));
+        of-slot = λ i e. absurd (omega (arith, zeros (slotNotes + s)));
       };
       formulas = λ i h. absurd (omega arith);
     }
 
--- words of which those of the index are the same
-pub index-kept : (nodes : List Node) (words : List ℕ) → Indexed nodes words → (k x : ℕ) → k < slotWords → Indexed nodes (set words k x)
-index-kept nodes words index k x h =
+-- notes of which those of the index are the same
+pub index-kept : (nodes : List Node) (notes : List ℕ) → Indexed nodes notes → (k x : ℕ) → k < slotNotes → Indexed nodes (set notes k x)
+index-kept nodes notes index k x h =
     record {
       few = index .few;
-      slots = λ s l. subst (Last nodes s (length nodes)) (sym (getD-set-other words k (slotWords + s) x 0 (λ e. omega arith))) (index .slots s l);
-      formulas = λ i l. subst (Last nodes (slotAt nodes i) i) (sym (getD-set-other words k (formulaWords + i) x 0 (λ e. omega arith))) (index .formulas i l);
+      slots = λ s l. subst (Last nodes s (length nodes)) (sym (getD-set-other notes k (slotNotes + s) x 0 (λ e. omega arith))) (index .slots s l);
+      formulas = λ i l. subst (Last nodes (slotAt nodes i) i) (sym (getD-set-other notes k (formulaNotes + i) x 0 (λ e. omega arith))) (index .formulas i l);
     }
 
 module _ (nodes : List Node) (m : Node) where
@@ -142,21 +142,21 @@ module _ (nodes : List Node) (m : Node) where
         of-slot = λ i e. slot-before i (omega (arith, last .within)) ∙ last .of-slot i e;
       }
 
-  module _ (words : List ℕ) (index : Indexed nodes words) (room : length nodes < 1024) (long : 3072 ≤ length words) where
+  module _ (notes : List ℕ) (index : Indexed nodes notes) (room : length nodes < 1024) (long : 3072 ≤ length notes) where
     abbrev place : ℕ
-    place = slotWords + slotOf (nodeRecord m)
+    place = slotNotes + slotOf (nodeRecord m)
 
     abbrev linked : List ℕ
-    linked = set words (formulaWords + length nodes) (getD words place 0)
+    linked = set notes (formulaNotes + length nodes) (getD notes place 0)
 
     abbrev after : List ℕ
     after = set linked place (length nodes + 1)
 
-    slot-now : (s : ℕ) → s < 1024 → Dec (s ≡ slotOf (nodeRecord m)) → Last more s (length more) (getD after (slotWords + s) 0)
+    slot-now : (s : ℕ) → s < 1024 → Dec (s ≡ slotOf (nodeRecord m)) → Last more s (length more) (getD after (slotNotes + s) 0)
     slot-now s h (yes e) =
         subst (Last more s (length more))
-        (sym (ap (λ (k : ℕ). getD after (slotWords + k) 0) e
-        ∙ getD-set-same linked place (length nodes + 1) 0 (omega (arith, length-set words (formulaWords + length nodes) (getD words place 0))))) (
+        (sym (ap (λ (k : ℕ). getD after (slotNotes + k) 0) e
+        ∙ getD-set-same linked place (length nodes + 1) 0 (omega (arith, length-set notes (formulaNotes + length nodes) (getD notes place 0))))) (
         record {
           none-later = λ j l k. omega (arith, longer);
           within = omega (arith, longer);
@@ -164,10 +164,10 @@ module _ (nodes : List Node) (m : Node) where
         })
     slot-now s h (no n) =
         let last = index .slots s h in
-        let kept = last-kept s (length nodes) (getD words (slotWords + s) 0) (omega arith) last in
+        let kept = last-kept s (length nodes) (getD notes (slotNotes + s) 0) (omega arith) last in
         subst (Last more s (length more))
-        (sym (getD-set-other linked place (slotWords + s) (length nodes + 1) 0 (λ e. n (omega arith))
-        ∙ getD-set-other words (formulaWords + length nodes) (slotWords + s) (getD words place 0) 0 (λ e. omega arith))) (
+        (sym (getD-set-other linked place (slotNotes + s) (length nodes + 1) 0 (λ e. n (omega arith))
+        ∙ getD-set-other notes (formulaNotes + length nodes) (slotNotes + s) (getD notes place 0) 0 (λ e. omega arith))) (
         record {
           none-later = λ j l k. kept .none-later j (earlier j l k (decLt j (length nodes))) k;
           within = omega (arith, longer, last .within);
@@ -178,50 +178,50 @@ module _ (nodes : List Node) (m : Node) where
         earlier j l k (yes before) = before
         earlier j l k (no late) = let last : j ≡ length nodes = omega (arith, longer) in absurd (n (sym k ∙ ap (slotAt more) last ∙ slot-last))
 
-    formula-now : (i : ℕ) → i < length more → Dec (i < length nodes) → Last more (slotAt more i) i (getD after (formulaWords + i) 0)
+    formula-now : (i : ℕ) → i < length more → Dec (i < length nodes) → Last more (slotAt more i) i (getD after (formulaNotes + i) 0)
     formula-now i h (yes l) =
-        subst (λ (s : ℕ). Last more s i (getD after (formulaWords + i) 0)) (sym (slot-before i l)) (
+        subst (λ (s : ℕ). Last more s i (getD after (formulaNotes + i) 0)) (sym (slot-before i l)) (
         subst (Last more (slotAt nodes i) i)
-        (sym (getD-set-other linked place (formulaWords + i) (length nodes + 1) 0 (λ e. omega arith)
-        ∙ getD-set-other words (formulaWords + length nodes) (formulaWords + i) (getD words place 0) 0 (λ e. omega arith)))
-        (last-kept (slotAt nodes i) i (getD words (formulaWords + i) 0) (omega arith) (index .formulas i l)))
+        (sym (getD-set-other linked place (formulaNotes + i) (length nodes + 1) 0 (λ e. omega arith)
+        ∙ getD-set-other notes (formulaNotes + length nodes) (formulaNotes + i) (getD notes place 0) 0 (λ e. omega arith)))
+        (last-kept (slotAt nodes i) i (getD notes (formulaNotes + i) 0) (omega arith) (index .formulas i l)))
     formula-now i h (no n) =
         let last : i ≡ length nodes = omega (arith, longer) in
-        subst (λ (k : ℕ). Last more (slotAt more k) k (getD after (formulaWords + k) 0)) (sym last) (
-        subst (λ (s : ℕ). Last more s (length nodes) (getD after (formulaWords + length nodes) 0)) (sym slot-last) (
+        subst (λ (k : ℕ). Last more (slotAt more k) k (getD after (formulaNotes + k) 0)) (sym last) (
+        subst (λ (s : ℕ). Last more s (length nodes) (getD after (formulaNotes + length nodes) 0)) (sym slot-last) (
         subst (Last more (slotOf (nodeRecord m)) (length nodes))
-        (sym (getD-set-other linked place (formulaWords + length nodes) (length nodes + 1) 0 (λ e. omega arith)
-        ∙ getD-set-same words (formulaWords + length nodes) (getD words place 0) 0 (omega arith)))
-        (last-kept (slotOf (nodeRecord m)) (length nodes) (getD words place 0) (omega arith) (index .slots (slotOf (nodeRecord m)) (omega arith)))))
+        (sym (getD-set-other linked place (formulaNotes + length nodes) (length nodes + 1) 0 (λ e. omega arith)
+        ∙ getD-set-same notes (formulaNotes + length nodes) (getD notes place 0) 0 (omega arith)))
+        (last-kept (slotOf (nodeRecord m)) (length nodes) (getD notes place 0) (omega arith) (index .slots (slotOf (nodeRecord m)) (omega arith)))))
 
-    pub index-more : Indexed more (entered words (length nodes) (nodeRecord m))
+    pub index-more : Indexed more (entered notes (length nodes) (nodeRecord m))
     index-more =
-        subst (Indexed more) (sym (ap (λ (b : Bool). cond b words after) (lt-leb 1024 (length nodes) room))) (
+        subst (Indexed more) (sym (ap (λ (b : Bool). cond b notes after) (lt-leb 1024 (length nodes) room))) (
         record {
           few = omega (arith, longer);
           slots = λ s h. slot-now s h (ℕ-discrete s (slotOf (nodeRecord m)));
           formulas = λ i h. formula-now i h (decLt i (length nodes));
         })
 
--- entering a formula changes no length, and no word before those of the index
-module _ (words : List ℕ) (i : ℕ) (numbers : List ℕ) where
+-- entering a formula changes no length, and no note before those of the index
+module _ (notes : List ℕ) (i : ℕ) (numbers : List ℕ) where
   abbrev slot : ℕ
-  slot = slotWords + slotOf numbers
+  slot = slotNotes + slotOf numbers
 
   abbrev chained : List ℕ
-  chained = set words (formulaWords + i) (getD words slot 0)
+  chained = set notes (formulaNotes + i) (getD notes slot 0)
 
-  pub length-entered : length (entered words i numbers) ≡ length words
+  pub length-entered : length (entered notes i numbers) ≡ length notes
   length-entered = either (leb 1024 i)
     where
-      either : (b : Bool) → length (cond b words (set chained slot (i + 1))) ≡ length words
+      either : (b : Bool) → length (cond b notes (set chained slot (i + 1))) ≡ length notes
       either true = refl
       either false = simp length-set
 
-  pub entered-before : (k : ℕ) → k < slotWords → getD (entered words i numbers) k 0 ≡ getD words k 0
+  pub entered-before : (k : ℕ) → k < slotNotes → getD (entered notes i numbers) k 0 ≡ getD notes k 0
   entered-before k h = either (leb 1024 i)
     where
-      either : (b : Bool) → getD (cond b words (set chained slot (i + 1))) k 0 ≡ getD words k 0
+      either : (b : Bool) → getD (cond b notes (set chained slot (i + 1))) k 0 ≡ getD notes k 0
       either true = refl
       either false =
-          getD-set-other chained slot k (i + 1) 0 (λ e. omega arith) ∙ getD-set-other words (formulaWords + i) k (getD words slot 0) 0 (λ e. omega arith)
+          getD-set-other chained slot k (i + 1) 0 (λ e. omega arith) ∙ getD-set-other notes (formulaNotes + i) k (getD notes slot 0) 0 (λ e. omega arith)

@@ -34,7 +34,7 @@ use Rattle.atomset.specs.AtomSet.{has, Member}
 use Rattle.tables.specs.declared.records.NodeRecord.{NodeRecord}
 use Rattle.tables.specs.Records.{recordFrom, nodeNumbers}
 use Rattle.known.specs.Index.{entered, Indexed}
-use Rattle.known.specs.Known.{AtomWords, Known, occursBy}
+use Rattle.known.specs.Known.{AtomNotes, Known, occursBy}
 use Rattle.known.specs.Entering.{Appended}
 use Rattle.known.proofs.Indexing.{index-kept, index-more, length-entered, entered-before}
 
@@ -42,28 +42,28 @@ either-true : (a b : Bool) → (a || b ≡ true) ↔ ((a ≡ true) ⊎ (b ≡ tr
 either-true true b = (λ e. inl refl, λ e. refl)
 either-true false b = (λ e. inr e, λ e. ⊎-elim (λ f. absurd (true≢false (sym f))) (λ f. f) e)
 
-module _ (b : Body) (good : GoodBody b) (words : List ℕ) (known : AtomWords b words) (m : Node) (earlier : refersAhead b m ≡ false) where
+module _ (b : Body) (good : GoodBody b) (notes : List ℕ) (known : AtomNotes b notes) (m : Node) (earlier : refersAhead b m ≡ false) where
   -- the atoms by the record are those of the formula
-  node-occurs : (p : ℕ) → (occursBy words (recordFrom (nodeRecord m)) p ≡ true) ↔ (p ∈ atomsOf (formulaOf (formulas (b .nodes)) m))
+  node-occurs : (p : ℕ) → (occursBy notes (recordFrom (nodeRecord m)) p ≡ true) ↔ (p ∈ atomsOf (formulaOf (formulas (b .nodes)) m))
   unfolding occursBy
   node-occurs p = cases m earlier
     where
-      of : (is : List ℕ) → unknownFormula b is ≡ false → (i : ℕ) → i ∈ is → Member p (getD words i 0) ↔ (p ∈ atomsOf (decodedAt (b .nodes) i))
+      of : (is : List ℕ) → unknownFormula b is ≡ false → (i : ℕ) → i ∈ is → Member p (getD notes i 0) ↔ (p ∈ atomsOf (decodedAt (b .nodes) i))
       of is e i j = known i (known-earlier b is e i j) p
 
       both : (i j : ℕ) → unknownFormula b (i ∷ j ∷ []) ≡ false
-          → (has (getD words i 0) p || has (getD words j 0) p ≡ true) ↔ (p ∈ atomsOf (decodedAt (b .nodes) i) ++ atomsOf (decodedAt (b .nodes) j))
+          → (has (getD notes i 0) p || has (getD notes j 0) p ≡ true) ↔ (p ∈ atomsOf (decodedAt (b .nodes) i) ++ atomsOf (decodedAt (b .nodes) j))
       both i j e =
           let A = atomsOf (decodedAt (b .nodes) i) in
           let B = atomsOf (decodedAt (b .nodes) j) in
           let of-i = of (i ∷ j ∷ []) e i (List·Memᴰ·head refl) in
           let of-j = of (i ∷ j ∷ []) e j (List·Memᴰ·tail (List·Memᴰ·head refl)) in
-          let or = either-true (has (getD words i 0) p) (has (getD words j 0) p) in (
+          let or = either-true (has (getD notes i 0) p) (has (getD notes j 0) p) in (
             λ t. ⊎-elim (λ x. Memᴰ·append-left B (of-i .0 x)) (λ x. Memᴰ·append-right A (of-j .0 x)) (or .0 t),
             λ t. or .1 (⊎-elim (λ x. inl (of-i .1 x)) (λ x. inr (of-j .1 x)) (List·Memᴰ·append-cases A t)),
           )
 
-      cases : (n : Node) → refersAhead b n ≡ false → (occursBy words (recordFrom (nodeRecord n)) p ≡ true) ↔ (p ∈ atomsOf (formulaOf (formulas (b .nodes)) n))
+      cases : (n : Node) → refersAhead b n ≡ false → (occursBy notes (recordFrom (nodeRecord n)) p ≡ true) ↔ (p ∈ atomsOf (formulaOf (formulas (b .nodes)) n))
       cases Node.bot e = (λ x. absurd (true≢false (sym x)), λ x. absurd (List·Memᴰ·not-nil x))
       cases (Node.atom i) e =
           let below : i < 64 = omega (arith, leb-false (b .atoms) i e, good-held good .few-atoms) in (
@@ -75,10 +75,10 @@ module _ (b : Body) (good : GoodBody b) (words : List ℕ) (known : AtomWords b 
       cases (Node.or i j) e = both i j e
       cases (Node.imp i j) e = both i j e
 
-  -- the words with one more
-  words-more : length (b .nodes) < length words → (w : ℕ) → ((p : ℕ) → has w p ≡ occursBy words (recordFrom (nodeRecord m)) p)
-      → AtomWords (addNode b m) (set words (length (b .nodes)) w)
-  words-more room w are i h p = at-end (decLt i (length (b .nodes)))
+  -- the notes with one more
+  notes-more : length (b .nodes) < length notes → (w : ℕ) → ((p : ℕ) → has w p ≡ occursBy notes (recordFrom (nodeRecord m)) p)
+      → AtomNotes (addNode b m) (set notes (length (b .nodes)) w)
+  notes-more room w are i h p = at-end (decLt i (length (b .nodes)))
     where
       there : {x y : ℕ} {A B : Formula} → x ≡ y → A ≡ B → Member p x ↔ (p ∈ atomsOf A) → Member p y ↔ (p ∈ atomsOf B)
       there {x} {y} {A} {B} e f r = subst (λ (z : ℕ). Member p z ↔ (p ∈ atomsOf B)) e (subst (λ (C : Formula). Member p x ↔ (p ∈ atomsOf C)) f r)
@@ -86,13 +86,13 @@ module _ (b : Body) (good : GoodBody b) (words : List ℕ) (known : AtomWords b 
       own : Member p w ↔ (p ∈ atomsOf (formulaOf (formulas (b .nodes)) m))
       own = (λ x. node-occurs p .0 (sym (are p) ∙ x), λ x. are p ∙ node-occurs p .1 x)
 
-      at-end : Dec (i < length (b .nodes)) → Member p (getD (set words (length (b .nodes)) w) i 0) ↔ (p ∈ atomsOf (decodedAt (b .nodes ++ m ∷ []) i))
+      at-end : Dec (i < length (b .nodes)) → Member p (getD (set notes (length (b .nodes)) w) i 0) ↔ (p ∈ atomsOf (decodedAt (b .nodes ++ m ∷ []) i))
       at-end (yes l) =
-          there (sym (getD-set-other words (length (b .nodes)) i w 0 (λ x. omega arith))) (sym (formulas-prefix (b .nodes) (m ∷ []) i l)) (known i l p)
+          there (sym (getD-set-other notes (length (b .nodes)) i w 0 (λ x. omega arith))) (sym (formulas-prefix (b .nodes) (m ∷ []) i l)) (known i l p)
       at-end (no n) =
           let last : i ≡ length (b .nodes) = omega (arith, length-append (b .nodes) (m ∷ [])) in
           there
-          (sym (ap (λ (x : ℕ). getD (set words (length (b .nodes)) w) x 0) last ∙ getD-set-same words (length (b .nodes)) w 0 room))
+          (sym (ap (λ (x : ℕ). getD (set notes (length (b .nodes)) w) x 0) last ∙ getD-set-same notes (length (b .nodes)) w 0 room))
           (sym (
           ap (decodedAt (b .nodes ++ m ∷ [])) last ∙ ap (λ (ts : List Formula). formulaAt ts (length (b .nodes))) (formulas-snoc (b .nodes) m)
           ∙ getD-at (formulas (b .nodes)) _ [] falsum (length (b .nodes)) (length-formulas (b .nodes))))
@@ -102,33 +102,33 @@ module _ (b : Body) (good : GoodBody b) (words : List ℕ) (known : AtomWords b 
 pub key-of : (key : NodeRecord) (m : Node) → nodeNumbers key ≡ nodeRecord m → key ≡ recordFrom (nodeRecord m)
 key-of key m e = ap recordFrom e
 
-module _ {b : Body} {formulas words formulas′ words′ : List ℕ} {count : ℕ} {key : NodeRecord} (good : GoodBody b) (known : Known b words) (m : Node)
-    (is-record : nodeNumbers key ≡ nodeRecord m) (more : Appended formulas words count key formulas′ words′) where
-  pub words-length : length words′ ≡ length words
-  words-length =
-      ap length (more .noted) ∙ length-entered (set words count (more .atoms)) count (nodeNumbers key) ∙ length-set words count (more .atoms)
+module _ {b : Body} {formulas notes formulas′ notes′ : List ℕ} {count : ℕ} {key : NodeRecord} (good : GoodBody b) (known : Known b notes) (m : Node)
+    (is-record : nodeNumbers key ≡ nodeRecord m) (more : Appended formulas notes count key formulas′ notes′) where
+  pub notes-length : length notes′ ≡ length notes
+  notes-length =
+      ap length (more .noted) ∙ length-entered (set notes count (more .atoms)) count (nodeNumbers key) ∙ length-set notes count (more .atoms)
 
   -- what is known, after the formula is appended
-  pub known-more : refersAhead b m ≡ false → count ≡ length (b .nodes) → count < mostFormulas → 3 * mostFormulas ≤ length words → Known (addNode b m) words′
+  pub known-more : refersAhead b m ≡ false → count ≡ length (b .nodes) → count < mostFormulas → 3 * mostFormulas ≤ length notes → Known (addNode b m) notes′
   known-more earlier at room long =
       record {
         atoms = λ i h p. subst (λ (w : ℕ). Member p w ↔ (p ∈ atomsOf (decodedAt (b .nodes ++ m ∷ []) i)))
-            (sym (same i h)) (words-more b good words (known .atoms) m earlier (omega arith) (more .atoms) are i h p);
+            (sym (same i h)) (notes-more b good notes (known .atoms) m earlier (omega arith) (more .atoms) are i h p);
         index = subst (λ (l : List ℕ). Indexed (b .nodes ++ m ∷ []) l) (sym noted)
-            (index-more (b .nodes) m (set words (length (b .nodes)) (more .atoms)) kept
-            (omega arith) (omega (arith, length-set words (length (b .nodes)) (more .atoms))));
+            (index-more (b .nodes) m (set notes (length (b .nodes)) (more .atoms)) kept
+            (omega arith) (omega (arith, length-set notes (length (b .nodes)) (more .atoms))));
       }
     where
-      are : (p : ℕ) → has (more .atoms) p ≡ occursBy words (recordFrom (nodeRecord m)) p
-      are p = more .atoms-are p ∙ ap (λ (k : NodeRecord). occursBy words k p) (key-of key m is-record)
+      are : (p : ℕ) → has (more .atoms) p ≡ occursBy notes (recordFrom (nodeRecord m)) p
+      are p = more .atoms-are p ∙ ap (λ (k : NodeRecord). occursBy notes k p) (key-of key m is-record)
 
-      noted : words′ ≡ entered (set words (length (b .nodes)) (more .atoms)) (length (b .nodes)) (nodeRecord m)
-      noted = more .noted ∙ ap₂ (λ (n : ℕ) (l : List ℕ). entered (set words n (more .atoms)) n l) at is-record
+      noted : notes′ ≡ entered (set notes (length (b .nodes)) (more .atoms)) (length (b .nodes)) (nodeRecord m)
+      noted = more .noted ∙ ap₂ (λ (n : ℕ) (l : List ℕ). entered (set notes n (more .atoms)) n l) at is-record
 
-      kept : Indexed (b .nodes) (set words (length (b .nodes)) (more .atoms))
-      kept = index-kept (b .nodes) words (known .index) (length (b .nodes)) (more .atoms) (omega arith)
+      kept : Indexed (b .nodes) (set notes (length (b .nodes)) (more .atoms))
+      kept = index-kept (b .nodes) notes (known .index) (length (b .nodes)) (more .atoms) (omega arith)
 
-      same : (i : ℕ) → i < length (b .nodes ++ m ∷ []) → getD words′ i 0 ≡ getD (set words (length (b .nodes)) (more .atoms)) i 0
+      same : (i : ℕ) → i < length (b .nodes ++ m ∷ []) → getD notes′ i 0 ≡ getD (set notes (length (b .nodes)) (more .atoms)) i 0
       same i h =
           ap (λ (l : List ℕ). getD l i 0) noted
-          ∙ entered-before (set words (length (b .nodes)) (more .atoms)) (length (b .nodes)) (nodeRecord m) i (omega (arith, length-append (b .nodes) (m ∷ [])))
+          ∙ entered-before (set notes (length (b .nodes)) (more .atoms)) (length (b .nodes)) (nodeRecord m) i (omega (arith, length-append (b .nodes) (m ∷ [])))

@@ -1,4 +1,4 @@
--- Laws of the words in which it is kept what is known of the formulas: of the index, of all of it, and of a formula that is entered.
+-- Laws of what is noted of the formulas: of the index, of all of it, and of a formula that is entered.
 pub mod Indexing
 pub mod Knowing
 pub mod Entries

@@ -24,26 +24,26 @@ entryRefusal (Entry.New i) = none
 entryRefusal Entry.Full = some 5
 
 -- tables with one formula more: its record after the others, its atoms, and its place in the index
-pub record Appended (formulas words : List ℕ) (count : ℕ) (key : NodeRecord) (formulas′ words′ : List ℕ) : Type 0 where
+pub record Appended (formulas notes : List ℕ) (count : ℕ) (key : NodeRecord) (formulas′ notes′ : List ℕ) : Type 0 where
   pub atoms : ℕ
-  pub atoms-are : (p : ℕ) → has atoms p ≡ occursBy words key p
+  pub atoms-are : (p : ℕ) → has atoms p ≡ occursBy notes key p
   pub put : formulas′ ≡ written formulas (nodeWidth * count) (nodeNumbers key)
-  pub noted : words′ ≡ entered (set words count atoms) count (nodeNumbers key)
+  pub noted : notes′ ≡ entered (set notes count atoms) count (nodeNumbers key)
 
 -- A formula that is held already, or for which there is no room, changes nothing; a new one is appended.
-pub data Enters (formulas words : List ℕ) (count : ℕ) (key : NodeRecord) (formulas′ words′ : List ℕ) : Entry → Type 0 where
-  full : mostFormulas ≤ count → formulas′ ≡ formulas → words′ ≡ words → Enters formulas words count key formulas′ words′ Entry.Full
+pub data Enters (formulas notes : List ℕ) (count : ℕ) (key : NodeRecord) (formulas′ notes′ : List ℕ) : Entry → Type 0 where
+  full : mostFormulas ≤ count → formulas′ ≡ formulas → notes′ ≡ notes → Enters formulas notes count key formulas′ notes′ Entry.Full
   held :
-      (i : ℕ) → count < mostFormulas → NodeFound formulas words (nodeNumbers key) (some i) → formulas′ ≡ formulas → words′ ≡ words
-      → Enters formulas words count key formulas′ words′ (Entry.Held i)
+      (i : ℕ) → count < mostFormulas → NodeFound formulas notes (nodeNumbers key) (some i) → formulas′ ≡ formulas → notes′ ≡ notes
+      → Enters formulas notes count key formulas′ notes′ (Entry.Held i)
   new :
-      count < mostFormulas → NodeFound formulas words (nodeNumbers key) none → Appended formulas words count key formulas′ words′
-      → Enters formulas words count key formulas′ words′ (Entry.New count)
+      count < mostFormulas → NodeFound formulas notes (nodeNumbers key) none → Appended formulas notes count key formulas′ notes′
+      → Enters formulas notes count key formulas′ notes′ (Entry.New count)
 
 -- The tables after it; and where the table holds formulas with their index, the number that the answer stands for: 5 where there
 -- is no room, else 8 where an equal formula is held.
-pub record FormulaEntered (formulas words : List ℕ) (count : ℕ) (key : NodeRecord) (formulas′ words′ : List ℕ) (r : Entry) : Type 0 where
-  pub entry : Enters formulas words count key formulas′ words′ r
+pub record FormulaEntered (formulas notes : List ℕ) (count : ℕ) (key : NodeRecord) (formulas′ notes′ : List ℕ) (r : Entry) : Type 0 where
+  pub entry : Enters formulas notes count key formulas′ notes′ r
   pub refusal :
-      (nodes : List Node) → HoldsNodes nodes formulas → Indexed nodes words
+      (nodes : List Node) → HoldsNodes nodes formulas → Indexed nodes notes
       → entryRefusal r ≡ first ((5 when leb mostFormulas count) ∷ (8 when any (λ m. sameList (nodeRecord m) (nodeNumbers key)) nodes) ∷ [])

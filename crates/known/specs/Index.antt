@@ -1,4 +1,4 @@
--- An index of the formulas by their records, in words beside the table.
+-- An index of the formulas by their records, in notes beside the table.
 use Prim.Native.Nat.{ℕ, suc, _+_, _*_, _%_, _≤_, _<_}
 use mathlib.Core.Bool.{false, cond}
 use mathlib.Core.List.{List}
@@ -13,12 +13,12 @@ use Rattle.tables.specs.Records.{nodeAt, recordFrom, nodeNumbers}
 use Rattle.tables.specs.Holding.{HoldsNodes}
 use Rattle.known.specs.declared.index.Located.{Located}
 
--- the words of the slots and of the formulas begin here
-abbrev pub slotWords : ℕ
-slotWords = 1024
+-- the notes of the slots and of the formulas begin here
+abbrev pub slotNotes : ℕ
+slotNotes = 1024
 
-abbrev pub formulaWords : ℕ
-formulaWords = 2048
+abbrev pub formulaNotes : ℕ
+formulaNotes = 2048
 
 -- the slot of a record
 abbrev pub slotOf : List ℕ → ℕ
@@ -34,16 +34,16 @@ pub record Last (nodes : List Node) (slot end after : ℕ) : Type 0 where
   pub within : after ≤ end
   pub of-slot : (i : ℕ) → after ≡ suc i → slotAt nodes i ≡ slot
 
--- the words are an index of these formulas
-pub record Indexed (nodes : List Node) (words : List ℕ) : Type 0 where
+-- the notes are an index of these formulas
+pub record Indexed (nodes : List Node) (notes : List ℕ) : Type 0 where
   pub few : length nodes ≤ 1024
-  pub slots : (s : ℕ) → s < 1024 → Last nodes s (length nodes) (getD words (slotWords + s) 0)
-  pub formulas : (i : ℕ) → i < length nodes → Last nodes (slotAt nodes i) i (getD words (formulaWords + i) 0)
+  pub slots : (s : ℕ) → s < 1024 → Last nodes s (length nodes) (getD notes (slotNotes + s) 0)
+  pub formulas : (i : ℕ) → i < length nodes → Last nodes (slotAt nodes i) i (getD notes (formulaNotes + i) 0)
 
--- the words with formula i entered, which has this record
+-- the notes with formula i entered, which has this record
 abbrev pub entered : List ℕ → ℕ → List ℕ → List ℕ
-entered words i numbers =
-    cond (leb 1024 i) words (set (set words (formulaWords + i) (getD words (slotWords + slotOf numbers) 0)) (slotWords + slotOf numbers) (i + 1))
+entered notes i numbers =
+    cond (leb 1024 i) notes (set (set notes (formulaNotes + i) (getD notes (slotNotes + slotOf numbers) 0)) (slotNotes + slotOf numbers) (i + 1))
 
 -- the place that an answer gives
 abbrev pub placeIn : Located → Option ℕ
@@ -52,9 +52,9 @@ placeIn Located.Nowhere = none
 
 -- What is found by the index, in any tables: a formula that has the record. Where the table holds formulas with their index, it
 -- is one of them, and nothing is found only where none has the record; elsewhere it is free whether one is found.
-pub record NodeFound (formulas words numbers : List ℕ) (place : Option ℕ) : Type 0 where
+pub record NodeFound (formulas notes numbers : List ℕ) (place : Option ℕ) : Type 0 where
   pub there : (i : ℕ) → place ≡ some i → nodeNumbers (recordFrom (nodeAt formulas i)) ≡ numbers
-  pub within : (nodes : List Node) → HoldsNodes nodes formulas → Indexed nodes words → (i : ℕ) → place ≡ some i → i < length nodes
+  pub within : (nodes : List Node) → HoldsNodes nodes formulas → Indexed nodes notes → (i : ℕ) → place ≡ some i → i < length nodes
   pub missing :
-      (nodes : List Node) → HoldsNodes nodes formulas → Indexed nodes words → place ≡ none
+      (nodes : List Node) → HoldsNodes nodes formulas → Indexed nodes notes → place ≡ none
       → any (λ m. sameList (nodeRecord m) numbers) nodes ≡ false

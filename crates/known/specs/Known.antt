@@ -1,4 +1,4 @@
--- What is known of each formula besides its record, in words beside the table: the atoms that occur in it, and an index by which
+-- What is known of each formula besides its record, in notes beside the table, 64 bits each: the atoms that occur in it, and an index by which
 -- an equal formula is found.
 use Prim.Native.Nat.{ℕ, _<_}
 use mathlib.Core.Bool.{Bool, false, cond, _&&_, _||_}
@@ -13,17 +13,17 @@ use Rattle.atomset.specs.AtomSet.{has, Member}
 use Rattle.tables.specs.declared.records.NodeRecord.{NodeRecord}
 use Rattle.known.specs.Index.{Indexed}
 
--- the word of formula i is the set of the atoms that occur in it
-abbrev pub AtomWords : Body → List ℕ → Type 0
-AtomWords b words = (i : ℕ) → i < length (b .nodes) → (k : ℕ) → Member k (getD words i 0) ↔ (k ∈ atomsOf (decodedAt (b .nodes) i))
+-- the note of formula i is the set of the atoms that occur in it
+abbrev pub AtomNotes : Body → List ℕ → Type 0
+AtomNotes b notes = (i : ℕ) → i < length (b .nodes) → (k : ℕ) → Member k (getD notes i 0) ↔ (k ∈ atomsOf (decodedAt (b .nodes) i))
 
-pub record Known (b : Body) (words : List ℕ) : Type 0 where
-  pub atoms : AtomWords b words
-  pub index : Indexed (b .nodes) words
+pub record Known (b : Body) (notes : List ℕ) : Type 0 where
+  pub atoms : AtomNotes b notes
+  pub index : Indexed (b .nodes) notes
 
--- atom p occurs in the formula of a record, by the words of the formulas before it; none does where the record is no formula's
+-- atom p occurs in the formula of a record, by the notes of the formulas before it; none does where the record is no formula's
 unfoldable pub occursBy : List ℕ → NodeRecord → ℕ → Bool
-occursBy words n p =
+occursBy notes n p =
     cond (eqb (n .word) 1) (eqb p (n .first) && ltb (n .first) 64) (
-    cond (eqb (n .word) 2) (has (getD words (n .first) 0) p) (
-    cond (leb 3 (n .word) && leb (n .word) 5) (has (getD words (n .first) 0) p || has (getD words (n .second) 0) p) false))
+    cond (eqb (n .word) 2) (has (getD notes (n .first) 0) p) (
+    cond (leb 3 (n .word) && leb (n .word) 5) (has (getD notes (n .first) 0) p || has (getD notes (n .second) 0) p) false))

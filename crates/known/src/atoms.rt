@@ -1,10 +1,10 @@
-// The atoms that occur in a formula as one word, out of the words of the formulas before it.
+// The atoms that occur in a formula, as one 64-bit word, out of those that are noted of the formulas before it.
 ghost use mathlib.Core.Path.{_≡_};
 ghost use Prim.Native.Nat.{ℕ};
 ghost use lib.ListN.{getD};
 ghost use Rattle.atomset.specs.AtomSet.{has};
 ghost use Rattle.known.specs.Known.{occursBy};
-use crate::index::word;
+use crate::index::note;
 use atomset::single;
 use atomset::union;
 use tables::records::NodeRecord;
@@ -20,22 +20,22 @@ const AND: u16 = 3;
 const IMP: u16 = 5;
 
 // The atoms of an earlier formula, none where there is no such formula.
-fn word_at(words: &[u64], i: u16) -> u64
-    ensures { λ r. ⌜ r ≡ getD (now (words .entry)) i 0 ⌝ }
+fn note_at(notes: &[u64], i: u16) -> u64
+    ensures { λ r. ⌜ r ≡ getD (now (notes .entry)) i 0 ⌝ }
 {
-    word(words, wide(i))
+    note(notes, wide(i))
 }
 
 // The atoms of the formula with this record.
-pub(crate) fn record_atoms(words: &[u64], key: NodeRecord) -> u64
-    ensures { λ r. ⌜ ((p : ℕ) → has r p ≡ occursBy (now (words .entry)) key p) ⌝ }
+pub(crate) fn record_atoms(notes: &[u64], key: NodeRecord) -> u64
+    ensures { λ r. ⌜ ((p : ℕ) → has r p ≡ occursBy (now (notes .entry)) key p) ⌝ }
 {
     let operator = key.word;
     if operator == ATOM {
         return single(wide(key.first));
     }
     if operator == NOT {
-        return word_at(words, key.first);
+        return note_at(notes, key.first);
     }
     if operator < AND {
         return 0;
@@ -43,5 +43,5 @@ pub(crate) fn record_atoms(words: &[u64], key: NodeRecord) -> u64
     if operator > IMP {
         return 0;
     }
-    union(word_at(words, key.first), word_at(words, key.second))
+    union(note_at(notes, key.first), note_at(notes, key.second))
 }

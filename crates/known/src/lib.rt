@@ -7,7 +7,7 @@ use crate::atoms::record_atoms;
 use crate::index::Located;
 use crate::index::enter_node;
 use crate::index::find_node;
-use crate::index::put_word;
+use crate::index::put_note;
 use counts::limits::MOST_FORMULAS;
 use tables::records::NodeRecord;
 use tables::records::put_node;
@@ -22,16 +22,16 @@ pub enum Entry {
 // Enters a formula into tables that hold `count` of them.
 pub fn enter_formula(
     formulas: &mut [u16],
-    words: &mut [u64],
+    notes: &mut [u64],
     count: usize,
     key: NodeRecord,
 ) -> Entry
-    ensures { λ r. ⌜ FormulaEntered (now (formulas .entry)) (now (words .entry)) count key (now (formulas .exit)) (now (words .exit)) r ⌝ }
+    ensures { λ r. ⌜ FormulaEntered (now (formulas .entry)) (now (notes .entry)) count key (now (formulas .exit)) (now (notes .exit)) r ⌝ }
 {
     if MOST_FORMULAS <= count {
         return Entry::Full;
     }
-    let found = find_node(formulas, words, key);
+    let found = find_node(formulas, notes, key);
     match found {
         Located::At(i) => {
             return Entry::Held(i);
@@ -39,7 +39,7 @@ pub fn enter_formula(
         Located::Nowhere => {}
     }
     put_node(formulas, count, key);
-    put_word(words, count, record_atoms(words, key));
-    enter_node(words, count, key);
+    put_note(notes, count, record_atoms(notes, key));
+    enter_node(notes, count, key);
     Entry::New(count)
 }

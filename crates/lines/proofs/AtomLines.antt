@@ -266,7 +266,7 @@ module _ {text line : Bytes} {start : ℕ} (at : NameAt text start line) (f : Fi
             record {
               names = omega (arith, written-length (t .names) (nameWidth * s .counts .atoms) (newNumbers start line), stored .full .names);
               formulas = stored .full .formulas;
-              words = stored .full .words;
+              notes = stored .full .notes;
               rows = stored .full .rows;
               left = stored .full .left;
               right = stored .full .right;
@@ -328,7 +328,7 @@ module _ (text : Bytes) (start : ℕ) (line : Bytes) (number : ℕ) (s : State) 
             (record {
               names = written-length names (nameWidth * s .counts .atoms) (newNumbers start line);
               formulas = refl;
-              words = refl;
+              notes = refl;
               rows = refl;
               left = refl;
               right = refl;

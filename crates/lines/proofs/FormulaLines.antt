@@ -369,39 +369,39 @@ module _ (line : Bytes) (fields : Fields) (fielded : Fielded line fields) (kind 
 
 -- ---- what entering the formula came to
 
-module _ {formulas words formulas′ words′ : List ℕ} {count : ℕ} {key : NodeRecord} where
-  pub entered-held : {r : Entry} → Enters formulas words count key formulas′ words′ r → (i : ℕ) → r ≡ Entry.Held i
-      → (formulas′ ≡ formulas) × (words′ ≡ words)
-  entered-held (full most same-formulas same-words) i e = let z : _≡_ {A = ℕ} 0 1 = cc in absurd (omega arith)
-  entered-held (held j few found same-formulas same-words) i e = (same-formulas, same-words)
+module _ {formulas notes formulas′ notes′ : List ℕ} {count : ℕ} {key : NodeRecord} where
+  pub entered-held : {r : Entry} → Enters formulas notes count key formulas′ notes′ r → (i : ℕ) → r ≡ Entry.Held i
+      → (formulas′ ≡ formulas) × (notes′ ≡ notes)
+  entered-held (full most same-formulas same-notes) i e = let z : _≡_ {A = ℕ} 0 1 = cc in absurd (omega arith)
+  entered-held (held j few found same-formulas same-notes) i e = (same-formulas, same-notes)
   entered-held (new few found more) i e = let z : _≡_ {A = ℕ} 0 1 = cc in absurd (omega arith)
 
-  pub entered-full : {r : Entry} → Enters formulas words count key formulas′ words′ r → r ≡ Entry.Full → mostFormulas ≤ count
-  entered-full (full most same-formulas same-words) e = most
-  entered-full (held j few found same-formulas same-words) e = let z : _≡_ {A = ℕ} 0 1 = cc in absurd (omega arith)
+  pub entered-full : {r : Entry} → Enters formulas notes count key formulas′ notes′ r → r ≡ Entry.Full → mostFormulas ≤ count
+  entered-full (full most same-formulas same-notes) e = most
+  entered-full (held j few found same-formulas same-notes) e = let z : _≡_ {A = ℕ} 0 1 = cc in absurd (omega arith)
   entered-full (new few found more) e = let z : _≡_ {A = ℕ} 0 1 = cc in absurd (omega arith)
 
-  pub entered-new : {r : Entry} → Enters formulas words count key formulas′ words′ r → (i : ℕ) → r ≡ Entry.New i
-      → Appended formulas words count key formulas′ words′
-  entered-new (full most same-formulas same-words) i e = let z : _≡_ {A = ℕ} 0 1 = cc in absurd (omega arith)
-  entered-new (held j few found same-formulas same-words) i e = let z : _≡_ {A = ℕ} 0 1 = cc in absurd (omega arith)
+  pub entered-new : {r : Entry} → Enters formulas notes count key formulas′ notes′ r → (i : ℕ) → r ≡ Entry.New i
+      → Appended formulas notes count key formulas′ notes′
+  entered-new (full most same-formulas same-notes) i e = let z : _≡_ {A = ℕ} 0 1 = cc in absurd (omega arith)
+  entered-new (held j few found same-formulas same-notes) i e = let z : _≡_ {A = ℕ} 0 1 = cc in absurd (omega arith)
   entered-new (new few found more) i e = more
 
-  formulas-length : Appended formulas words count key formulas′ words′ → length formulas′ ≡ length formulas
+  formulas-length : Appended formulas notes count key formulas′ notes′ → length formulas′ ≡ length formulas
   formulas-length more = ap length (more .put) ∙ written-length formulas (nodeWidth * count) (nodeNumbers key)
 
-  words-length : Appended formulas words count key formulas′ words′ → length words′ ≡ length words
-  words-length more = ap length (more .noted) ∙ length-entered (set words count (more .atoms)) count (nodeNumbers key) ∙ length-set words count (more .atoms)
+  notes-length : Appended formulas notes count key formulas′ notes′ → length notes′ ≡ length notes
+  notes-length more = ap length (more .noted) ∙ length-entered (set notes count (more .atoms)) count (nodeNumbers key) ∙ length-set notes count (more .atoms)
 
 -- ---- the line, by a beginning that the tables hold
 
-module _ (line : Bytes) (number : ℕ) (s : State) (formulas words : List ℕ) (n : ℕ) (node : Written) (k : ℕ) (numbers : FormulaNumbered s n node k)
+module _ (line : Bytes) (number : ℕ) (s : State) (formulas notes : List ℕ) (n : ℕ) (node : Written) (k : ℕ) (numbers : FormulaNumbered s n node k)
     (read : FormulaRead line n node) where
   abbrev m : Node
   m = read .formula
 
   module _ {text : Bytes} {f : File} {done : List Bytes} (t : Memory) (p : Place) (good : Good done f)
-      (stored : Stored text f s (withFormulas t formulas words)) where
+      (stored : Stored text f s (withFormulas t formulas notes)) where
     abbrev nodes : List Node
     nodes = f .body .nodes
 
@@ -438,7 +438,7 @@ module _ (line : Bytes) (number : ℕ) (s : State) (formulas words : List ℕ) (
       is-record = ap nodeNumbers (is-key ∙ ap narrowed (read .written-as)) ∙ record-fits (f .body) (good-held (good .body)) m (late .0)
 
       -- the number of the line is the one that the answer stands for
-      entry-tells : {formulas′ words′ : List ℕ} {entry : Entry} → FormulaEntered formulas words (s .counts .formulas) key formulas′ words′ entry
+      entry-tells : {formulas′ notes′ : List ℕ} {entry : Entry} → FormulaEntered formulas notes (s .counts .formulas) key formulas′ notes′ entry
           → step f p line ≡ settled (entryRefusal entry) p (withNode f m)
       entry-tells {entry} entered =
           step-formula f p line n m (read .read) ∙ ap (λ (o : Option ℕ). settled o p (withNode f m)) (late .2 ∙ sym tells)
@@ -449,7 +449,7 @@ module _ (line : Bytes) (number : ℕ) (s : State) (formulas words : List ℕ) (
               ∙ ap₂ (λ (a b : Bool). first ((5 when a) ∷ (8 when b) ∷ [])) (ap (leb mostFormulas) held-count ∙ late .1)
               (ap (λ (l : List ℕ). any (λ x. sameList (nodeRecord x) l) nodes) is-record)
 
-      module _ {formulas′ words′ : List ℕ} (more : Appended formulas words (s .counts .formulas) key formulas′ words′) where
+      module _ {formulas′ notes′ : List ℕ} (more : Appended formulas notes (s .counts .formulas) key formulas′ notes′) where
         room : length nodes < mostFormulas
         room = leb-false _ _ (late .1)
 
@@ -464,7 +464,7 @@ module _ (line : Bytes) (number : ℕ) (s : State) (formulas words : List ℕ) (
             fits : nodeWidth * length nodes + length (nodeRecord m) ≤ length formulas
             fits = omega (arith, ap length (sym is-record), room, stored .full .formulas)
 
-        after : Stored text (withNode f m) (passedBy s (withFormula (s .counts)) 1 number .state) (withFormulas t formulas′ words′)
+        after : Stored text (withNode f m) (passedBy s (withFormula (s .counts)) 1 number .state) (withFormulas t formulas′ notes′)
         after =
             let whole = stored .full in
             record {
@@ -472,7 +472,7 @@ module _ (line : Bytes) (number : ℕ) (s : State) (formulas words : List ℕ) (
                   record {
                     names = whole .names;
                     formulas = omega (arith, formulas-length more, whole .formulas);
-                    words = omega (arith, words-length more, whole .words);
+                    notes = omega (arith, notes-length more, whole .notes);
                     rows = whole .rows;
                     left = whole .left;
                     right = whole .right;
@@ -484,7 +484,7 @@ module _ (line : Bytes) (number : ℕ) (s : State) (formulas words : List ℕ) (
               names = stored .names;
               formulas = formulas-held;
               known =
-                  known-more (good .body) (stored .known) m is-record more (late .0) held-count (omega (arith, held-count, room)) (whole .words);
+                  known-more (good .body) (stored .known) m is-record more (late .0) held-count (omega (arith, held-count, room)) (whole .notes);
               rows = stored .rows;
               left = stored .left;
               right = stored .right;
@@ -492,22 +492,22 @@ module _ (line : Bytes) (number : ℕ) (s : State) (formulas words : List ℕ) (
 
   -- ---- what the line comes to
 
-  pub formula-early : {r : Stepped} → (k ≡ 0 → ⊥) → r ≡ refusedBy s k number → FormulaLined line number s r formulas words formulas words
+  pub formula-early : {r : Stepped} → (k ≡ 0 → ⊥) → r ≡ refusedBy s k number → FormulaLined line number s r formulas notes formulas notes
   formula-early h e text start t = line-refused k _ e (λ f p done good stored. early t p good stored h)
 
-  module _ (z : k ≡ 0) {key : NodeRecord} (is-key : key ≡ narrowed node) {formulas′ words′ : List ℕ} {entry : Entry}
-      (entered : FormulaEntered formulas words (s .counts .formulas) key formulas′ words′ entry) where
-    told : {text : Bytes} {f : File} {done : List Bytes} (t : Memory) (p : Place) → Good done f → Stored text f s (withFormulas t formulas words)
+  module _ (z : k ≡ 0) {key : NodeRecord} (is-key : key ≡ narrowed node) {formulas′ notes′ : List ℕ} {entry : Entry}
+      (entered : FormulaEntered formulas notes (s .counts .formulas) key formulas′ notes′ entry) where
+    told : {text : Bytes} {f : File} {done : List Bytes} (t : Memory) (p : Place) → Good done f → Stored text f s (withFormulas t formulas notes)
         → {o : Option ℕ} → entryRefusal entry ≡ o → step f p line ≡ settled o p (withNode f m)
     told {f} t p good stored e = entry-tells t p good stored z key is-key entered ∙ ap (λ (o : Option ℕ). settled o p (withNode f m)) e
 
-    pub formula-held : {r : Stepped} (i : ℕ) → entry ≡ Entry.Held i → r ≡ refusedBy s 8 number → FormulaLined line number s r formulas words formulas′ words′
+    pub formula-held : {r : Stepped} (i : ℕ) → entry ≡ Entry.Held i → r ≡ refusedBy s 8 number → FormulaLined line number s r formulas notes formulas′ notes′
     formula-held {r} i is-held e text start t =
         let same = entered-held (entered .entry) i is-held in
-        subst (λ (u : Memory). Lined text start line number s r (withFormulas t formulas words) u) (ap₂ (withFormulas t) (sym (same .0)) (sym (same .1)))
+        subst (λ (u : Memory). Lined text start line number s r (withFormulas t formulas notes) u) (ap₂ (withFormulas t) (sym (same .0)) (sym (same .1)))
         (line-refused 8 _ e (λ f p done good stored. told t p good stored (ap entryRefusal is-held)))
 
-    pub formula-full : {r : Stepped} → entry ≡ Entry.Full → FormulaLined line number s r formulas words formulas′ words′
+    pub formula-full : {r : Stepped} → entry ≡ Entry.Full → FormulaLined line number s r formulas notes formulas′ notes′
     formula-full is-full =
         let out = notNext (s .stage) 1 (s .counts .formulas) n in
         let ahead-here = aheadIn node (s .counts) in
@@ -515,7 +515,7 @@ module _ (line : Bytes) (number : ℕ) (s : State) (formulas words : List ℕ) (
         absurd (omega (arith, few, entered-full (entered .entry) is-full))
 
     pub formula-new : {r : Stepped} {counts : Counts} (i : ℕ) → entry ≡ Entry.New i → counts ≡ withFormula (s .counts) → r ≡ passedBy s counts 1 number
-        → FormulaLined line number s r formulas words formulas′ words′
+        → FormulaLined line number s r formulas notes formulas′ notes′
     formula-new {r} i is-new more-counts e text start t =
         let more = entered-new (entered .entry) i is-new in
         let zero-number : r .number ≡ 0 = ap (λ (x : Stepped). x .number) e in
@@ -525,9 +525,9 @@ module _ (line : Bytes) (number : ℕ) (s : State) (formulas words : List ℕ) (
           steps =
               λ f p done good stored size at-start at-line.
               steps-next r (withNode f m) (told t p good stored (ap entryRefusal is-new)) zero-number
-              (subst (λ (x : State). Stored text (withNode f m) x (withFormulas t formulas′ words′)) state-is
+              (subst (λ (x : State). Stored text (withNode f m) x (withFormulas t formulas′ notes′)) state-is
               (after t p good stored z key is-key more));
           keeps =
               keeps-passed zero-number
-              (record { names = refl; formulas = formulas-length more; words = words-length more; rows = refl; left = refl; right = refl });
+              (record { names = refl; formulas = formulas-length more; notes = notes-length more; rows = refl; left = refl; right = refl });
         }

@@ -203,7 +203,7 @@ none-given (suc k) o e z = absurd (omega arith)
 -- ---- what holds in any tables
 
 pub same-lengths : (t : Memory) → SameLengths t t
-same-lengths t = record { names = refl; formulas = refl; words = refl; rows = refl; left = refl; right = refl }
+same-lengths t = record { names = refl; formulas = refl; notes = refl; rows = refl; left = refl; right = refl }
 
 module _ {s : State} {r : Stepped} where
   pub keeps-refused : {n line : ℕ} (t : Memory) → r ≡ refusedBy s n line → Keeps s r t t
@@ -270,7 +270,7 @@ module _ {text : Bytes} {f : File} {s : State} {t : Memory} (stored : Stored tex
   pub rows-held : HoldsRows (f .body .rows) (t .rows) (t .left) (t .right)
   rows-held = record { records = begins-padded (stored .rows); left-pool = begins-padded (stored .left); right-pool = begins-padded (stored .right) }
 
-  pub ground : {done : List Bytes} → Good done f → Ground (f .body) (s .counts) (t .formulas) (t .words) (t .rows) (t .left) (t .right)
+  pub ground : {done : List Bytes} → Good done f → Ground (f .body) (s .counts) (t .formulas) (t .notes) (t .rows) (t .left) (t .right)
   ground good =
       record {
         good = good .body;

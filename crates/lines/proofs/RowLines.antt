@@ -197,26 +197,26 @@ module _ (text line : Bytes) (start number : ℕ) (s : State) {n : ℕ} {q : Row
       ∙ ap (λ (o : Option ℕ). settled o p (withRow f q))
       (first-applies (4 when outOfOrder (f .stage) in-rows (length (f .body .rows)) n) (bodyTests (f .body) q) (sym (order-asked stored) ∙ other)))
 
-  module _ (next-one : otherIn (row .number) s ≡ false) {d : Draft} (drafted : Drafted q d l r) {formulas words rows left right : List ℕ} {k : ℕ}
-      (numbers : RowNumbered d (s .counts) l r formulas words rows left right k) where
+  module _ (next-one : otherIn (row .number) s ≡ false) {d : Draft} (drafted : Drafted q d l r) {formulas notes rows left right : List ℕ} {k : ℕ}
+      (numbers : RowNumbered d (s .counts) l r formulas notes rows left right k) where
     -- the number that the row earns
-    row-earns : {f : File} (t : Memory) {done : List Bytes} → Good done f → Stored text f s (withRows t formulas words rows left right)
+    row-earns : {f : File} (t : Memory) {done : List Bytes} → Good done f → Stored text f s (withRows t formulas notes rows left right)
         → numbered k ≡ first (rowTests f n q)
     row-earns {f} t good stored =
         numbers .given (f .body) q (ground stored good) drafted
         ∙ sym (first-passes (4 when outOfOrder (f .stage) in-rows (length (f .body .rows)) n) (bodyTests (f .body) q) (sym (order-asked stored) ∙ next-one))
 
     pub row-refused : {stepped : Stepped} (t : Memory) → (k ≡ 0 → ⊥) → stepped ≡ refusedBy s k number
-        → Lined text start line number s stepped (withRows t formulas words rows left right) (withRows t formulas words rows left right)
+        → Lined text start line number s stepped (withRows t formulas notes rows left right) (withRows t formulas notes rows left right)
     row-refused t some-number given =
-        line-refused k (withRows t formulas words rows left right) given (λ f p done good stored.
+        line-refused k (withRows t formulas notes rows left right) given (λ f p done good stored.
         step-row f p line n q well
         ∙ ap (λ (o : Option ℕ). settled o p (withRow f q)) (sym (row-earns t good stored) ∙ numbered-some k some-number))
 
     -- a row that passes
     module _ (passed : k ≡ 0) {rows′ left′ right′ : List ℕ} (w : RowStored d (s .counts) l r rows left right rows′ left′ right′)
         {f : File} (p : Place) (t : Memory) {done : List Bytes} (good : Good done f)
-        (stored : Stored text f s (withRows t formulas words rows left right)) where
+        (stored : Stored text f s (withRows t formulas notes rows left right)) where
       steps : step f p line ≡ next (withRow f q)
       steps =
           step-row f p line n q well
@@ -311,14 +311,14 @@ module _ (text line : Bytes) (start number : ℕ) (s : State) {n : ℕ} {q : Row
           ∙ counts-row (f .body) q room
 
       pub row-stored : {counts : Counts} → counts ≡ countRow (s .counts) (d .left .count) (d .right .count)
-          → Stored text (withRow f q) (passedBy s counts 2 number .state) (withRows t formulas words rows′ left′ right′)
+          → Stored text (withRow f q) (passedBy s counts 2 number .state) (withRows t formulas notes rows′ left′ right′)
       row-stored e =
           record {
             full =
                 record {
                   names = stored .full .names;
                   formulas = stored .full .formulas;
-                  words = stored .full .words;
+                  notes = stored .full .notes;
                   rows = omega (
                     arith,
                     stored .full .rows,
@@ -341,14 +341,14 @@ module _ (text line : Bytes) (start number : ℕ) (s : State) {n : ℕ} {q : Row
           }
 
 -- what is written of a row changes no length
-pub row-lengths : {d : Draft} {c : Counts} {l r rows left right rows′ left′ right′ : List ℕ} (t : Memory) (formulas words : List ℕ)
+pub row-lengths : {d : Draft} {c : Counts} {l r rows left right rows′ left′ right′ : List ℕ} (t : Memory) (formulas notes : List ℕ)
     → RowStored d c l r rows left right rows′ left′ right′
-    → SameLengths (withRows t formulas words rows left right) (withRows t formulas words rows′ left′ right′)
-row-lengths {d} {c} {l} {r} {rows} {left} {right} t formulas words w =
+    → SameLengths (withRows t formulas notes rows left right) (withRows t formulas notes rows′ left′ right′)
+row-lengths {d} {c} {l} {r} {rows} {left} {right} t formulas notes w =
     record {
       names = refl;
       formulas = refl;
-      words = refl;
+      notes = refl;
       rows = ap length (w .row-written) ∙ written-length rows _ _;
       left = ap length (w .left-written) ∙ written-length left _ _;
       right = ap length (w .right-written) ∙ written-length right _ _;
@@ -356,44 +356,44 @@ row-lengths {d} {c} {l} {r} {rows} {left} {right} t formulas words w =
 
 -- ---- what settling a row comes to
 
-module _ (row : RowRead) (number : ℕ) (above l r formulas words : List ℕ) (s : State) (stepped : Stepped) (rows left right : List ℕ) where
+module _ (row : RowRead) (number : ℕ) (above l r formulas notes : List ℕ) (s : State) (stepped : Stepped) (rows left right : List ℕ) where
   pub settled-misplaced : otherIn (row .number) s ≡ true → stepped ≡ refusedBy s 4 number
-      → RowSettled row number above l r formulas words s stepped rows left right rows left right
+      → RowSettled row number above l r formulas notes s stepped rows left right rows left right
   settled-misplaced other given =
       record {
-        lined = λ text line start n q t well h. row-misplaced text line start number s well h (withRows t formulas words rows left right) other given;
-        keeps = λ t. keeps-refused (withRows t formulas words rows left right) given;
+        lined = λ text line start n q t well h. row-misplaced text line start number s well h (withRows t formulas notes rows left right) other given;
+        keeps = λ t. keeps-refused (withRows t formulas notes rows left right) given;
       }
 
   module _ (next-one : otherIn (row .number) s ≡ false) (one two : ℕ) (is-one : one ≡ getD above 0 0) (is-two : two ≡ getD above 1 0)
-      (d : Draft) (is-draft : d ≡ draftOf row one two) (k : ℕ) (numbers : RowNumbered d (s .counts) l r formulas words rows left right k) where
+      (d : Draft) (is-draft : d ≡ draftOf row one two) (k : ℕ) (numbers : RowNumbered d (s .counts) l r formulas notes rows left right k) where
     pub settled-refused : (k ≡ 0 → ⊥) → stepped ≡ refusedBy s k number
-        → RowSettled row number above l r formulas words s stepped rows left right rows left right
+        → RowSettled row number above l r formulas notes s stepped rows left right rows left right
     settled-refused some-number given =
         record {
           lined = λ text line start n q t well h. row-refused text line start number s well h next-one
               (row-drafted h is-one is-two is-draft) numbers t some-number given;
-          keeps = λ t. keeps-refused (withRows t formulas words rows left right) given;
+          keeps = λ t. keeps-refused (withRows t formulas notes rows left right) given;
         }
 
     pub settled-stored : k ≡ 0 → (rows′ left′ right′ : List ℕ) → RowStored d (s .counts) l r rows left right rows′ left′ right′
         → (counts : Counts) → counts ≡ countRow (s .counts) (d .left .count) (d .right .count) → stepped ≡ passedBy s counts 2 number
-        → RowSettled row number above l r formulas words s stepped rows left right rows′ left′ right′
+        → RowSettled row number above l r formulas notes s stepped rows left right rows′ left′ right′
     settled-stored passed rows′ left′ right′ w counts is-counts given =
         record {
           lined = λ text line start n q t well h. record { steps = steps-stored text line start n q t well h; keeps = keeps t };
           keeps = keeps;
         }
       where
-        keeps : (t : Memory) → Keeps s stepped (withRows t formulas words rows left right) (withRows t formulas words rows′ left′ right′)
-        keeps t = keeps-passed (ap (λ (z : Stepped). z .number) given) (row-lengths t formulas words w)
+        keeps : (t : Memory) → Keeps s stepped (withRows t formulas notes rows left right) (withRows t formulas notes rows′ left′ right′)
+        keeps t = keeps-passed (ap (λ (z : Stepped). z .number) given) (row-lengths t formulas notes w)
 
         steps-stored : (text line : Bytes) (start n : ℕ) (q : Row) (t : Memory) → lineOf line ≡ some (rowLine n q) → RowLaid n q row above l r
-            → (f : File) (p : Place) (done : List Bytes) → Good done f → Stored text f s (withRows t formulas words rows left right) → length text ≤ mostBytes
-            → p .start ≡ start → p .line ≡ number → Steps text (step f p line) stepped (withRows t formulas words rows′ left′ right′)
+            → (f : File) (p : Place) (done : List Bytes) → Good done f → Stored text f s (withRows t formulas notes rows left right) → length text ≤ mostBytes
+            → p .start ≡ start → p .line ≡ number → Steps text (step f p line) stepped (withRows t formulas notes rows′ left′ right′)
         steps-stored text line start n q t well h f p done good stored size placed at =
             let drafted = row-drafted h is-one is-two is-draft in
             steps-next stepped (withRow f q) (steps text line start number s well h next-one drafted numbers passed w p t good stored)
             (ap (λ (z : Stepped). z .number) given) (
-            subst (λ (z : Stepped). Stored text (withRow f q) (z .state) (withRows t formulas words rows′ left′ right′)) (sym given) (
+            subst (λ (z : Stepped). Stored text (withRow f q) (z .state) (withRows t formulas notes rows′ left′ right′)) (sym given) (
             row-stored text line start number s well h next-one drafted numbers passed w p t good stored is-counts))

@@ -27,7 +27,7 @@ pub record AtomNumbered (text : Bytes) (names : List ℕ) (s : State) (n : ℕ) 
 
 -- the contents with another names table
 abbrev pub withNames : Memory → List ℕ → Memory
-withNames t names = record { names = names; formulas = t .formulas; words = t .words; rows = t .rows; left = t .left; right = t .right }
+withNames t names = record { names = names; formulas = t .formulas; notes = t .notes; rows = t .rows; left = t .left; right = t .right }
 
 abbrev pub AtomLined : Bytes → ℕ → Bytes → ℕ → State → Stepped → List ℕ → List ℕ → Type 0
 AtomLined text start line number s r names names′ = (t : Memory) → Lined text start line number s r (withNames t names) (withNames t names′)

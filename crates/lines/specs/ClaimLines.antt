@@ -25,7 +25,7 @@ claimOf left right s =
 
 -- the contents with these rows and pools
 abbrev pub withTables : Memory → List ℕ → List ℕ → List ℕ → Memory
-withTables t rows left right = record { names = t .names; formulas = t .formulas; words = t .words; rows = rows; left = left; right = right }
+withTables t rows left right = record { names = t .names; formulas = t .formulas; notes = t .notes; rows = rows; left = left; right = right }
 
 pub record ClaimSettled (antecedent succedent : Listed) (number : ℕ) (l r rows left right : List ℕ) (s : State) (stepped : Stepped) : Type 0 where
   pub lined :

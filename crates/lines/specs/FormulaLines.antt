@@ -46,8 +46,8 @@ pub record FormulaNumbered (s : State) (n : ℕ) (node : Written) (k : ℕ) : Ty
 
 -- the contents with other formulas and words
 abbrev pub withFormulas : Memory → List ℕ → List ℕ → Memory
-withFormulas t formulas words = record { names = t .names; formulas = formulas; words = words; rows = t .rows; left = t .left; right = t .right }
+withFormulas t formulas notes = record { names = t .names; formulas = formulas; notes = notes; rows = t .rows; left = t .left; right = t .right }
 
 abbrev pub FormulaLined : Bytes → ℕ → State → Stepped → List ℕ → List ℕ → List ℕ → List ℕ → Type 0
-FormulaLined line number s r formulas words formulas′ words′ =
-    (text : Bytes) (start : ℕ) (t : Memory) → Lined text start line number s r (withFormulas t formulas words) (withFormulas t formulas′ words′)
+FormulaLined line number s r formulas notes formulas′ notes′ =
+    (text : Bytes) (start : ℕ) (t : Memory) → Lined text start line number s r (withFormulas t formulas notes) (withFormulas t formulas′ notes′)

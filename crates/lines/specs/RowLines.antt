@@ -22,16 +22,16 @@ otherIn Number.Bad s = true
 
 -- the contents with other formulas, words, rows and pools
 abbrev pub withRows : Memory → List ℕ → List ℕ → List ℕ → List ℕ → List ℕ → Memory
-withRows t formulas words rows left right = record { names = t .names; formulas = formulas; words = words; rows = rows; left = left; right = right }
+withRows t formulas notes rows left right = record { names = t .names; formulas = formulas; notes = notes; rows = rows; left = left; right = right }
 
-pub record RowSettled (row : RowRead) (number : ℕ) (above l r formulas words : List ℕ) (s : State) (stepped : Stepped)
+pub record RowSettled (row : RowRead) (number : ℕ) (above l r formulas notes : List ℕ) (s : State) (stepped : Stepped)
     (rows left right rows′ left′ right′ : List ℕ) : Type 0 where
   pub lined :
       (text line : Bytes) (start n : ℕ) (q : Row) (t : Memory) → lineOf line ≡ some (rowLine n q) → RowLaid n q row above l r
-      → Lined text start line number s stepped (withRows t formulas words rows left right) (withRows t formulas words rows′ left′ right′)
-  pub keeps : (t : Memory) → Keeps s stepped (withRows t formulas words rows left right) (withRows t formulas words rows′ left′ right′)
+      → Lined text start line number s stepped (withRows t formulas notes rows left right) (withRows t formulas notes rows′ left′ right′)
+  pub keeps : (t : Memory) → Keeps s stepped (withRows t formulas notes rows left right) (withRows t formulas notes rows′ left′ right′)
 
 abbrev pub RowLined : Bytes → ℕ → List ℕ → List ℕ → State → Stepped → List ℕ → List ℕ → List ℕ → List ℕ → List ℕ → List ℕ → Type 0
-RowLined line number formulas words s stepped rows left right rows′ left′ right′ =
+RowLined line number formulas notes s stepped rows left right rows′ left′ right′ =
     (text : Bytes) (start : ℕ) (t : Memory)
-    → Lined text start line number s stepped (withRows t formulas words rows left right) (withRows t formulas words rows′ left′ right′)
+    → Lined text start line number s stepped (withRows t formulas notes rows left right) (withRows t formulas notes rows′ left′ right′)

@@ -150,11 +150,11 @@ pub(crate) fn formula_line(
     number: u32,
     fields: Fields,
     formulas: &mut [u16],
-    words: &mut [u64],
+    notes: &mut [u64],
     state: State,
 ) -> Stepped
     requires { ⌜ (Fielded (now line) fields) × OfKind "F" (now line) ⌝ }
-    ensures { λ r. ⌜ FormulaLined (now (line .entry)) number state r (now (formulas .entry)) (now (words .entry)) (now (formulas .exit)) (now (words .exit)) ⌝ }
+    ensures { λ r. ⌜ FormulaLined (now (line .entry)) number state r (now (formulas .entry)) (now (notes .entry)) (now (formulas .exit)) (now (notes .exit)) ⌝ }
 {
     if fields.count != 5 {
         return state.refused(BAD_LINE, number);
@@ -176,7 +176,7 @@ pub(crate) fn formula_line(
         return state.refused(refusal, number);
     }
     let counts = state.counts;
-    let entry = enter_formula(formulas, words, counts.formulas, record_of(node));
+    let entry = enter_formula(formulas, notes, counts.formulas, record_of(node));
     match entry {
         Entry::Held(_) => state.refused(8, number),
         Entry::Full => state.refused(5, number),

@@ -27,15 +27,15 @@ pub fn step_line(
     number: u32,
     names: &mut [u16],
     formulas: &mut [u16],
-    words: &mut [u64],
+    notes: &mut [u64],
     rows: &mut [u16],
     left: &mut [u16],
     right: &mut [u16],
     state: State,
 ) -> Stepped
     ensures { λ r. ⌜ LineStepped (now (text .entry)) start end number state r
-        (tables (now (names .entry)) (now (formulas .entry)) (now (words .entry)) (now (rows .entry)) (now (left .entry)) (now (right .entry)))
-        (tables (now (names .exit)) (now (formulas .exit)) (now (words .exit)) (now (rows .exit)) (now (left .exit)) (now (right .exit))) ⌝ }
+        (tables (now (names .entry)) (now (formulas .entry)) (now (notes .entry)) (now (rows .entry)) (now (left .entry)) (now (right .entry)))
+        (tables (now (names .exit)) (now (formulas .exit)) (now (notes .exit)) (now (rows .exit)) (now (left .exit)) (now (right .exit))) ⌝ }
 {
     if end > text.len() {
         return state.refused(BAD_LINE, number);
@@ -48,13 +48,13 @@ pub fn step_line(
     let kind = line_kind(field(line, fields, 0));
     match kind {
         Kind::Atom => atom_line(text, start, end, number, fields, names, state),
-        Kind::Formula => formula_line(line, number, fields, formulas, words, state),
+        Kind::Formula => formula_line(line, number, fields, formulas, notes, state),
         Kind::Row => row_line(
             line,
             number,
             fields,
             formulas,
-            words,
+            notes,
             rows,
             left,
             right,

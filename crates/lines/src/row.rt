@@ -39,14 +39,14 @@ fn settle_row(
     antecedent: &[u16],
     succedent: &[u16],
     formulas: &[u16],
-    words: &[u64],
+    notes: &[u64],
     rows: &mut [u16],
     left: &mut [u16],
     right: &mut [u16],
     state: State,
 ) -> Stepped
     ensures { λ s. ⌜ RowSettled row number (now (above .entry)) (now (antecedent .entry)) (now (succedent .entry))
-        (now (formulas .entry)) (now (words .entry)) state s
+        (now (formulas .entry)) (now (notes .entry)) state s
         (now (rows .entry)) (now (left .entry)) (now (right .entry)) (now (rows .exit)) (now (left .exit)) (now (right .exit)) ⌝ }
 {
     let own = row.number;
@@ -60,7 +60,7 @@ fn settle_row(
         antecedent,
         succedent,
         formulas,
-        words,
+        notes,
         rows,
         left,
         right,
@@ -81,14 +81,14 @@ pub(crate) fn row_line(
     number: u32,
     fields: Fields,
     formulas: &[u16],
-    words: &[u64],
+    notes: &[u64],
     rows: &mut [u16],
     left: &mut [u16],
     right: &mut [u16],
     state: State,
 ) -> Stepped
     requires { ⌜ (Fielded (now line) fields) × OfKind "N" (now line) ⌝ }
-    ensures { λ s. ⌜ RowLined (now (line .entry)) number (now (formulas .entry)) (now (words .entry)) state s
+    ensures { λ s. ⌜ RowLined (now (line .entry)) number (now (formulas .entry)) (now (notes .entry)) state s
         (now (rows .entry)) (now (left .entry)) (now (right .entry)) (now (rows .exit)) (now (left .exit)) (now (right .exit)) ⌝ }
 {
     if fields.count != MOST_FIELDS {
@@ -108,7 +108,7 @@ pub(crate) fn row_line(
         &l,
         &r,
         formulas,
-        words,
+        notes,
         rows,
         left,
         right,

@@ -105,9 +105,9 @@ short-side : (side : List ℕ) → badSide side ≡ false → length side ≤ mo
 short-side side good = ltb-false mostOnSide (length side) (booleans.or-false (not (strictlyRising side)) _ good .1)
 
 -- a row that none of the early tests refuses, ready for its rule
-pub ready : {b : Body} {r : Row} {d : Draft} {c : Counts} {left right formulas words rows leftPool rightPool : List ℕ}
-    → Ground b c formulas words rows leftPool rightPool → Drafted r d left right → first (earlyTests b r) ≡ none
-    → Judging b r formulas words rows leftPool rightPool d (take (d .left .count) left) (take (d .right .count) right)
+pub ready : {b : Body} {r : Row} {d : Draft} {c : Counts} {left right formulas notes rows leftPool rightPool : List ℕ}
+    → Ground b c formulas notes rows leftPool rightPool → Drafted r d left right → first (earlyTests b r) ≡ none
+    → Judging b r formulas notes rows leftPool rightPool d (take (d .left .count) left) (take (d .right .count) right)
 ready {b} {r} {d} {c} {left} {right} g drafted e =
     record {
       formulas-held = record { good = g .good; table = g .nodes };

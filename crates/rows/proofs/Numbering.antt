@@ -98,10 +98,10 @@ passes-iff b r n e = (to, from)
         numbered-none n .0 (
         e ∙ joined ∙ ap (λ (o : Option ℕ). orElse o (first (ruleTests b r))) (p .0) ∙ row-passes-exactly b r .1 (p .1))
 
-module _ (d : Draft) (c : Counts) (left right formulas words rows leftPool rightPool : List ℕ)
+module _ (d : Draft) (c : Counts) (left right formulas notes rows leftPool rightPool : List ℕ)
     (early : ℕ) (is-early : numbered early ≡ first (earlyOf d c)) where
   -- one of the tests before the rule applies
-  pub early-numbered : (early ≡ 0 → ⊥) → RowNumbered d c left right formulas words rows leftPool rightPool early
+  pub early-numbered : (early ≡ 0 → ⊥) → RowNumbered d c left right formulas notes rows leftPool rightPool early
   early-numbered h =
       record {
         given = given;
@@ -110,7 +110,7 @@ module _ (d : Draft) (c : Counts) (left right formulas words rows leftPool right
         late = λ e. absurd (h (numbered-none early .0 (is-early ∙ e)));
       }
     where
-      given : (b : Body) (r : Row) → Ground b c formulas words rows leftPool rightPool → Drafted r d left right → numbered early ≡ first (bodyTests b r)
+      given : (b : Body) (r : Row) → Ground b c formulas notes rows leftPool rightPool → Drafted r d left right → numbered early ≡ first (bodyTests b r)
       given b r g drafted =
           numbered-some early h
           ∙ sym (
@@ -120,9 +120,9 @@ module _ (d : Draft) (c : Counts) (left right formulas words rows leftPool right
 
   -- none does, and the rule decides
   pub late-numbered : early ≡ 0 → (v : Verdict)
-      → ((b : Body) (r : Row) → Judging b r formulas words rows leftPool rightPool d (take (d .left .count) left) (take (d .right .count) right)
+      → ((b : Body) (r : Row) → Judging b r formulas notes rows leftPool rightPool d (take (d .left .count) left) (take (d .right .count) right)
       → refusalOf v ≡ first (ruleTests b r))
-      → RowNumbered d c left right formulas words rows leftPool rightPool (verdictNumber v)
+      → RowNumbered d c left right formulas notes rows leftPool rightPool (verdictNumber v)
   late-numbered h v judged =
       record {
         given = given;
@@ -134,7 +134,7 @@ module _ (d : Draft) (c : Counts) (left right formulas words rows leftPool right
       none-early : first (earlyOf d c) ≡ none
       none-early = sym is-early ∙ numbered-none early .1 h
 
-      given : (b : Body) (r : Row) → Ground b c formulas words rows leftPool rightPool
+      given : (b : Body) (r : Row) → Ground b c formulas notes rows leftPool rightPool
           → Drafted r d left right → numbered (verdictNumber v) ≡ first (bodyTests b r)
       given b r g drafted =
           let none-here = sym (ap first (early-same b (g .counts) drafted)) ∙ none-early in
@@ -143,10 +143,10 @@ module _ (d : Draft) (c : Counts) (left right formulas words rows leftPool right
 
   -- the same, with the sides named as they were taken
   pub late-fronted : early ≡ 0 → {x y : List ℕ} → x ≡ take (d .left .count) left → y ≡ take (d .right .count) right → (v : Verdict) {w : Verdict} → v ≡ w
-      → ((b : Body) (r : Row) → Judging b r formulas words rows leftPool rightPool d x y → refusalOf v ≡ first (ruleTests b r))
-      → RowNumbered d c left right formulas words rows leftPool rightPool (verdictNumber w)
+      → ((b : Body) (r : Row) → Judging b r formulas notes rows leftPool rightPool d x y → refusalOf v ≡ first (ruleTests b r))
+      → RowNumbered d c left right formulas notes rows leftPool rightPool (verdictNumber w)
   late-fronted h {x} {y} e f v told judged =
-      subst (λ (u : Verdict). RowNumbered d c left right formulas words rows leftPool rightPool (verdictNumber u)) told (
+      subst (λ (u : Verdict). RowNumbered d c left right formulas notes rows leftPool rightPool (verdictNumber u)) told (
       late-numbered h v (λ b r j. judged b r (
-      subst (λ (l : List ℕ). Judging b r formulas words rows leftPool rightPool d l y) (sym e) (
-      subst (λ (m : List ℕ). Judging b r formulas words rows leftPool rightPool d (take (d .left .count) left) m) (sym f) j))))
+      subst (λ (l : List ℕ). Judging b r formulas notes rows leftPool rightPool d l y) (sym e) (
+      subst (λ (m : List ℕ). Judging b r formulas notes rows leftPool rightPool d (take (d .left .count) left) m) (sym f) j))))

@@ -120,8 +120,8 @@ abbrev pub premiseRow : Body → Row → ℕ → Row
 premiseRow b q k = getD (b .rows) (getD (q .premises) k absent) q
 
 -- the numbers of a row's rule, and of a row of the body
-module _ {b : Body} {q : Row} {formulas words rows leftPool rightPool left right : List ℕ} {d : Draft}
-    (j : Judging b q formulas words rows leftPool rightPool d left right) where
+module _ {b : Body} {q : Row} {formulas notes rows leftPool rightPool left right : List ℕ} {d : Draft}
+    (j : Judging b q formulas notes rows leftPool rightPool d left right) where
   pub asked-number : (at : ℕ) → at < 18 → ruleNumber (d .rule) at ≡ getD (ruleNumbers (q .rule)) at 0
   asked-number at h = ap (λ (code : ℕ). ruleNumber code at) (sym (j .rule)) ∙ rule-number (q .rule) at h
 
@@ -210,8 +210,8 @@ module _ (b : Body) (q : Row) where
   wrong-count n = kinds-differ (count-differs past (kindsOf b q) asked (λ e. n (sym counted ∙ e)))
 
 -- number 10 by the numbers that are compared: the principal formula's, the count of premises, and the premises' kinds
-module _ {b : Body} {q : Row} {formulas words rows leftPool rightPool left right : List ℕ} {d : Draft}
-    (j : Judging b q formulas words rows leftPool rightPool d left right) where
+module _ {b : Body} {q : Row} {formulas notes rows leftPool rightPool left right : List ℕ} {d : Draft}
+    (j : Judging b q formulas notes rows leftPool rightPool d left right) where
   abbrev asksFor : List Kind
   asksFor = premiseKinds (entry (q .rule))
 

@@ -24,8 +24,8 @@ of-equal P {w} {x} {y} {z} {w′} {x′} {y′} {z′} e f g h p =
     subst (λ (v : List ℕ). P w′ x′ y′ v) h
     (subst (λ (v : List ℕ). P w′ x′ v z) g (subst (λ (v : List ℕ). P w′ v y z) f (subst (λ (v : List ℕ). P v x y z) e p)))
 
-module _ {b : Body} {q : Row} {formulas words rows leftPool rightPool left right : List ℕ} {d : Draft}
-    (j : Judging b q formulas words rows leftPool rightPool d left right) (right-premises : wrongPremises b q ≡ false)
+module _ {b : Body} {q : Row} {formulas notes rows leftPool rightPool left right : List ℕ} {d : Draft}
+    (j : Judging b q formulas notes rows leftPool rightPool d left right) (right-premises : wrongPremises b q ≡ false)
     (i k : ℕ) (is-first : i ≡ d .first) (is-second : k ≡ d .second) {l₁ r₁ l₂ r₂ : List ℕ}
     (first-left : l₁ ≡ fetched rows leftPool rightPool Side.left i) (first-right : r₁ ≡ fetched rows leftPool rightPool Side.right i)
     (second-left : l₂ ≡ fetched rows leftPool rightPool Side.left k) (second-right : r₂ ≡ fetched rows leftPool rightPool Side.right k) where
@@ -36,10 +36,10 @@ module _ {b : Body} {q : Row} {formulas words rows leftPool rightPool left right
       of-equal (λ w x y z. DecidesIf (AllRise (left ∷ right ∷ w ∷ x ∷ y ∷ z ∷ []))
       (CutSides p left right w x y z) r) first-left first-right second-left second-right answer)
 
-  pub unstable-refetched : entry (q .rule) ≡ unstable → (r : Bool) → UnstableStep formulas words left l₁ r₁ l₂ r₂ r → Decides (RowInstance b q) r
+  pub unstable-refetched : entry (q .rule) ≡ unstable → (r : Bool) → UnstableStep formulas notes left l₁ r₁ l₂ r₂ r → Decides (RowInstance b q) r
   unstable-refetched he r answer =
       unstable-decided j right-premises i k is-first is-second he r (
-      of-equal (λ w x y z. UnstableStep formulas words left w x y z r) first-left first-right second-left second-right answer)
+      of-equal (λ w x y z. UnstableStep formulas notes left w x y z r) first-left first-right second-left second-right answer)
 
   pub schema-refetched : (t : Schema) → entry (q .rule) ≡ schema t → (p : ℕ) → p ≡ principalNumber (d .principal) → (r : Bool)
       → SchemaAnswer formulas (record { rule = d .rule; principal = p; count = d .premises .count; row = left ⊣ right; one = l₁ ⊣ r₁; two = l₂ ⊣ r₂ }) r

@@ -78,8 +78,8 @@ none-there (some i) e = absurd (true≢false e)
 good-rises : (side : List ℕ) → badSide side ≡ false → strictlyRising side ≡ true
 good-rises side e = not-false (strictlyRising side) (or-false (not (strictlyRising side)) _ e .0)
 
-module _ {b : Body} {q : Row} {formulas words rows leftPool rightPool left right : List ℕ} {d : Draft}
-    (j : Judging b q formulas words rows leftPool rightPool d left right) (right-premises : wrongPremises b q ≡ false) where
+module _ {b : Body} {q : Row} {formulas notes rows leftPool rightPool left right : List ℕ} {d : Draft}
+    (j : Judging b q formulas notes rows leftPool rightPool d left right) (right-premises : wrongPremises b q ≡ false) where
   asks : RightPremises b q
   asks = ten-exactly b q .0 right-premises
 

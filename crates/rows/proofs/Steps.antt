@@ -131,8 +131,8 @@ all-rise (suc zero) x y h f g = (f (omega arith), tt)
 all-rise (suc (suc zero)) x y h f g = (f (omega arith), (g (omega arith), tt))
 all-rise (suc (suc (suc n))) x y h f g = absurd (omega arith)
 
-module _ {b : Body} {q : Row} {formulas words rows leftPool rightPool left right : List ℕ} {d : Draft}
-    (j : Judging b q formulas words rows leftPool rightPool d left right) (right-premises : wrongPremises b q ≡ false) where
+module _ {b : Body} {q : Row} {formulas notes rows leftPool rightPool left right : List ℕ} {d : Draft}
+    (j : Judging b q formulas notes rows leftPool rightPool d left right) (right-premises : wrongPremises b q ≡ false) where
   none-at : {e : Entry} → entry (q .rule) ≡ e → premiseKinds e ≡ [] → (k : ℕ) → k < length (q .premises) → ⊥
   none-at he h k l = omega (arith, premise-count j right-premises he, ap length h)
 
@@ -219,7 +219,7 @@ module _ {b : Body} {q : Row} {formulas words rows leftPool rightPool left right
         known-one : (n : ℕ) → n < length (b .nodes) → unknownFormula b (n ∷ []) ≡ false
         known-one n l = ap (λ (t : Bool). t || false) (lt-leb (length (b .nodes)) n l)
 
-    pub unstable-decided : entry (q .rule) ≡ unstable → (r : Bool) → UnstableStep formulas words left l₁ r₁ l₂ r₂ r → Decides (RowInstance b q) r
+    pub unstable-decided : entry (q .rule) ≡ unstable → (r : Bool) → UnstableStep formulas notes left l₁ r₁ l₂ r₂ r → Decides (RowInstance b q) r
     unstable-decided he r answer =
         let two : length (q .premises) ≡ 2 = premise-count j right-premises he in
         let absent-here = ap (λ (o : Option ℕ). decodedAt (b .nodes) <$> o) (principal-absent j right-premises he refl) in

@@ -18,11 +18,11 @@ use Rattle.early.specs.Early.{earlyOf, numbered}
 use Rattle.drafts.specs.declared.Draft.{Draft}
 
 -- the tables, and what is known of the formulas, are those of a good body with these counts
-pub record Ground (b : Body) (c : Counts) (formulas words rows left right : List ℕ) : Type 0 where
+pub record Ground (b : Body) (c : Counts) (formulas notes rows left right : List ℕ) : Type 0 where
   pub good : GoodBody b
   pub counts : c ≡ countsOf b
   pub nodes : HoldsNodes (b .nodes) formulas
-  pub known : Known b words
+  pub known : Known b notes
   pub rows-held : HoldsRows (b .rows) rows left right
 
 -- the tests before the rule's own
@@ -32,12 +32,12 @@ earlyTests b r = roomTests b r ++ referenceTests b r ++ sideTests (r .left) (r .
 -- The number of a row. For every good body that the tables begin with it is the first that applies, and the row passes exactly
 -- when it passes the tests before its rule and is an instance. In any tables 5, 7 and 9 are given by the draft and the counts;
 -- where the tables hold no good body, or the draft is not a row's, which of 0, 10 and 11 comes after these is free.
-pub record RowNumbered (d : Draft) (c : Counts) (left right formulas words rows leftPool rightPool : List ℕ) (number : ℕ) : Type 0 where
+pub record RowNumbered (d : Draft) (c : Counts) (left right formulas notes rows leftPool rightPool : List ℕ) (number : ℕ) : Type 0 where
   pub given :
-      (b : Body) (r : Row) → Ground b c formulas words rows leftPool rightPool → Drafted r d left right
+      (b : Body) (r : Row) → Ground b c formulas notes rows leftPool rightPool → Drafted r d left right
       → numbered number ≡ first (bodyTests b r)
   pub passes :
-      (b : Body) (r : Row) → Ground b c formulas words rows leftPool rightPool → Drafted r d left right
+      (b : Body) (r : Row) → Ground b c formulas notes rows leftPool rightPool → Drafted r d left right
       → (number ≡ 0) ↔ ((first (earlyTests b r) ≡ none) × RowInstance b r)
   pub early : (n : ℕ) → first (earlyOf d c) ≡ some n → number ≡ n
   pub late : first (earlyOf d c) ≡ none → number ∈ 0 ∷ 10 ∷ 11 ∷ []

@@ -13,13 +13,13 @@ use Rattle.format.specs.Tests.{unknownFormula, listed}
 use Rattle.text.specs.Numbers.{principalAs}
 use Rattle.text.specs.declared.numbers.Optional.{Optional}
 use Rattle.tables.specs.Holding.{HoldsRows, Formulas, Sided}
-use Rattle.known.specs.Known.{AtomWords}
+use Rattle.known.specs.Known.{AtomNotes}
 use Rattle.rows.specs.declared.Verdict.{Verdict}
 use Rattle.drafts.specs.declared.Draft.{Draft}
 
-pub record Judging (b : Body) (q : Row) (formulas words rows leftPool rightPool : List ℕ) (d : Draft) (left right : List ℕ) : Type 0 where
+pub record Judging (b : Body) (q : Row) (formulas notes rows leftPool rightPool : List ℕ) (d : Draft) (left right : List ℕ) : Type 0 where
   pub formulas-held : Formulas b formulas
-  pub atoms-known : AtomWords b words
+  pub atoms-known : AtomNotes b notes
   pub rows-held : HoldsRows (b .rows) rows leftPool rightPool
   pub rule : codeOf (q .rule) ≡ d .rule
   pub principal : d .principal ≡ principalAs (some (q .principal))

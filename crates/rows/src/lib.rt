@@ -25,7 +25,7 @@ enum Verdict {
 // A row that passed the numbers before its rule.
 fn judge_row<'a>(
     formulas: &[u16],
-    words: &[u64],
+    notes: &[u64],
     rows: &[u16],
     left: &'a [u16],
     right: &'a [u16],
@@ -34,7 +34,7 @@ fn judge_row<'a>(
     succedent: &[u16],
 ) -> Verdict
     ensures { λ v. ⌜ ((b : Body) (q : Row)
-        → Judging b q (now (formulas .entry)) (now (words .entry)) (now (rows .entry)) (now (left .entry)) (now (right .entry)) draft
+        → Judging b q (now (formulas .entry)) (now (notes .entry)) (now (rows .entry)) (now (left .entry)) (now (right .entry)) draft
         (now (antecedent .entry)) (now (succedent .entry))
         → refusalOf v ≡ first (ruleTests b q)) ⌝ }
 {
@@ -43,7 +43,7 @@ fn judge_row<'a>(
     }
     if step_holds(
         formulas,
-        words,
+        notes,
         rows,
         left,
         right,
@@ -62,14 +62,14 @@ pub fn row_number<'a>(
     antecedent: &[u16],
     succedent: &[u16],
     formulas: &[u16],
-    words: &[u64],
+    notes: &[u64],
     rows: &[u16],
     left: &'a [u16],
     right: &'a [u16],
     counts: Counts,
 ) -> u32
     ensures { λ r. ⌜ RowNumbered draft counts (now (antecedent .entry)) (now (succedent .entry)) (now (formulas .entry))
-        (now (words .entry)) (now (rows .entry)) (now (left .entry)) (now (right .entry)) r ⌝ }
+        (now (notes .entry)) (now (rows .entry)) (now (left .entry)) (now (right .entry)) r ⌝ }
 {
     let early = early_number(draft, counts);
     if early != 0 {
@@ -79,7 +79,7 @@ pub fn row_number<'a>(
     let r = draft.right;
     let verdict = judge_row(
         formulas,
-        words,
+        notes,
         rows,
         left,
         right,

@@ -48,8 +48,8 @@ fn count(x: u8) -> usize
 
 // Whether number 10 applies.
 pub(crate) fn wrong_premises(rows: &[u16], draft: Draft) -> bool
-    ensures { λ r. ⌜ ((b : Body) (q : Row) (formulas words leftPool rightPool left right : List ℕ)
-        → Judging b q formulas words (now (rows .entry)) leftPool rightPool draft left right → r ≡ wrongPremises b q) ⌝ }
+    ensures { λ r. ⌜ ((b : Body) (q : Row) (formulas notes leftPool rightPool left right : List ℕ)
+        → Judging b q formulas notes (now (rows .entry)) leftPool rightPool draft left right → r ≡ wrongPremises b q) ⌝ }
 {
     let rule = draft.rule;
     let principal = draft.principal;

@@ -32,7 +32,7 @@ const INITIAL: u8 = 13;
 // Whether a row of a rule that has premises is an instance.
 fn premised_step<'a>(
     formulas: &[u16],
-    words: &[u64],
+    notes: &[u64],
     rows: &[u16],
     left: &'a [u16],
     right: &'a [u16],
@@ -42,7 +42,7 @@ fn premised_step<'a>(
     succedent: &[u16],
 ) -> bool
     ensures { λ r. ⌜ ((b : Body) (q : Row)
-        → Judging b q (now (formulas .entry)) (now (words .entry)) (now (rows .entry)) (now (left .entry)) (now (right .entry)) draft
+        → Judging b q (now (formulas .entry)) (now (notes .entry)) (now (rows .entry)) (now (left .entry)) (now (right .entry)) draft
         (now (antecedent .entry)) (now (succedent .entry))
         → wrongPremises b q ≡ false → step ≡ stepNumber (entry (q .rule)) → Premised (entry (q .rule)) → Decides (RowInstance b q) r) ⌝ }
 {
@@ -68,7 +68,7 @@ fn premised_step<'a>(
     if step == UNSTABLE {
         return unstable_step(
             formulas,
-            words,
+            notes,
             antecedent,
             left_one,
             right_one,
@@ -94,7 +94,7 @@ fn premised_step<'a>(
 // Whether the row is an instance of its rule.
 pub(crate) fn step_holds<'a>(
     formulas: &[u16],
-    words: &[u64],
+    notes: &[u64],
     rows: &[u16],
     left: &'a [u16],
     right: &'a [u16],
@@ -103,7 +103,7 @@ pub(crate) fn step_holds<'a>(
     succedent: &[u16],
 ) -> bool
     ensures { λ r. ⌜ ((b : Body) (q : Row)
-        → Judging b q (now (formulas .entry)) (now (words .entry)) (now (rows .entry)) (now (left .entry)) (now (right .entry)) draft
+        → Judging b q (now (formulas .entry)) (now (notes .entry)) (now (rows .entry)) (now (left .entry)) (now (right .entry)) draft
         (now (antecedent .entry)) (now (succedent .entry))
         → wrongPremises b q ≡ false → Decides (RowInstance b q) r) ⌝ }
 {
@@ -117,7 +117,7 @@ pub(crate) fn step_holds<'a>(
     }
     premised_step(
         formulas,
-        words,
+        notes,
         rows,
         left,
         right,

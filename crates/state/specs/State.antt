@@ -42,23 +42,23 @@ abbrev pub claimLine : Option Claim → ℕ
 claimLine none = 0
 claimLine (some c) = c .line
 
--- the contents of the lent tables, and of the words in which it is kept what is known of the formulas
+-- the contents of the lent tables, and of the notes on the formulas
 pub record Memory : Type 0 where
   pub names : List ℕ
   pub formulas : List ℕ
-  pub words : List ℕ
+  pub notes : List ℕ
   pub rows : List ℕ
   pub left : List ℕ
   pub right : List ℕ
 
 abbrev pub tables : List ℕ → List ℕ → List ℕ → List ℕ → List ℕ → List ℕ → Memory
-tables names formulas words rows left right = record { names = names; formulas = formulas; words = words; rows = rows; left = left; right = right }
+tables names formulas notes rows left right = record { names = names; formulas = formulas; notes = notes; rows = rows; left = left; right = right }
 
 -- the tables are of full length
 pub record Full (t : Memory) : Type 0 where
   pub names : least .names ≤ length (t .names)
   pub formulas : least .formulas ≤ length (t .formulas)
-  pub words : 3 * mostFormulas ≤ length (t .words)
+  pub notes : 3 * mostFormulas ≤ length (t .notes)
   pub rows : least .rows ≤ length (t .rows)
   pub left : least .left ≤ length (t .left)
   pub right : least .right ≤ length (t .right)
@@ -67,7 +67,7 @@ pub record Full (t : Memory) : Type 0 where
 pub record SameLengths (t u : Memory) : Type 0 where
   pub names : length (u .names) ≡ length (t .names)
   pub formulas : length (u .formulas) ≡ length (t .formulas)
-  pub words : length (u .words) ≡ length (t .words)
+  pub notes : length (u .notes) ≡ length (t .notes)
   pub rows : length (u .rows) ≡ length (t .rows)
   pub left : length (u .left) ≡ length (t .left)
   pub right : length (u .right) ≡ length (t .right)
@@ -85,7 +85,7 @@ pub record Stored (text : Bytes) (f : File) (s : State) (t : Memory) : Type 0 wh
   pub names-in : (n : Name) → n ∈ f .names → StandsIn text n
   pub names : Exactly (joinAll nameRecord (f .names)) (t .names)
   pub formulas : Exactly (joinAll nodeRecord (f .body .nodes)) (t .formulas)
-  pub known : Known (f .body) (t .words)
+  pub known : Known (f .body) (t .notes)
   pub rows : Exactly (rowRecords (f .body .rows)) (t .rows)
   pub left : Exactly (leftPool (f .body .rows)) (t .left)
   pub right : Exactly (rightPool (f .body .rows)) (t .right)

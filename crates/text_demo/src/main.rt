@@ -88,15 +88,15 @@ fn show_name(field: &[u8]) {
 fn show_words(field: &[u8]) {
     put_head(b"word", field);
     put(b"formula ");
-    put_decimal(text::words::formula_word(field) as u64);
+    put_decimal(keywords::formula_word(field) as u64);
     put(b", rule ");
-    put_decimal(text::words::rule_word(field) as u64);
+    put_decimal(keywords::rule_word(field) as u64);
     put(b"\n");
 }
 
 fn show_kind(field: &[u8]) {
     put_head(b"kind", field);
-    let kind = text::words::line_kind(field);
+    let kind = keywords::line_kind(field);
     match kind {
         Kind::Atom => put(b"atom"),
         Kind::Formula => put(b"formula"),
@@ -111,13 +111,13 @@ fn show_kind(field: &[u8]) {
 fn third(line: &[u8]) -> &[u8]
     ensures { λ r. ⌜ now r ≡ getD (fieldsOf (now (line .entry))) 2 [] ⌝ }
 {
-    let fields = text::parts::read_fields(line);
-    text::parts::field(line, fields, 2)
+    let fields = parts::read_fields(line);
+    parts::field(line, fields, 2)
 }
 
 fn show_line(line: &[u8]) {
     put_head(b"line", line);
-    let fields = text::parts::read_fields(line);
+    let fields = parts::read_fields(line);
     put_decimal(fields.count as u64);
     put(b" fields, the third [");
     put(third(line));

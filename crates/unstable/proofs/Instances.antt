@@ -24,7 +24,7 @@ use Rattle.atomset.proofs.Rising.{rising-unique}
 use Rattle.atomset.proofs.Members.{members-rising, member-members, members-unique}
 use Rattle.atomset.proofs.SetOf.{member-setOf, setOf-lt}
 use Rattle.tables.specs.Holding.{Formulas, Sided}
-use Rattle.known.specs.Known.{AtomWords}
+use Rattle.known.specs.Known.{AtomNotes}
 use Rattle.sides.proofs.Sets.{any-iff}
 use Rattle.unstable.specs.Joins.{middlesIn}
 use Rattle.unstable.specs.Fixing.{Fixes}
@@ -86,7 +86,7 @@ record Fitting (b : Body) (left leftTwo : List ℕ) (e : ℕ) (c : Chosen) : Typ
   fixes : decoded (b .nodes) leftTwo ≈ (map fixed c ++ decoded (b .nodes) left)
 
 module _
-    {b : Body} {formulas : List ℕ} (g : Formulas b formulas) (words : List ℕ) (known : AtomWords b words) (R : List Formula)
+    {b : Body} {formulas : List ℕ} (g : Formulas b formulas) (notes : List ℕ) (known : AtomNotes b notes) (R : List Formula)
     {left leftOne rightOne leftTwo rightTwo : List ℕ} (s : Sided b left) (s₁ : Sided b leftOne) (t₁ : Sided b rightOne)
     (s₂ : Sided b leftTwo) (t₂ : Sided b rightTwo) where
   -- the tests on the sides alone
@@ -100,15 +100,15 @@ module _
   second-one i = ap length (alone g rightTwo _ t₂ (unstable-iff .0 i .refuted .right) .1)
 
   -- v is the word of the atoms of L
-  module _ {v : ℕ} (is-v : WordOf (λ p. onSide words left p ≡ true) v) where
+  module _ {v : ℕ} (is-v : WordOf (λ p. onSide notes left p ≡ true) v) where
     in-v : (p : ℕ) → Member p v ↔ (p ∈ atomsIn (decoded (b .nodes) left))
     unfolding onSide
     in-v p = (to, from)
       where
         test : ℕ → Bool
-        test x = has (getD words x 0) p
+        test x = has (getD notes x 0) p
 
-        here : (x : ℕ) → x ∈ left → Member p (getD words x 0) ↔ (p ∈ atomsOf (decodedAt (b .nodes) x))
+        here : (x : ℕ) → x ∈ left → Member p (getD notes x 0) ↔ (p ∈ atomsOf (decodedAt (b .nodes) x))
         here x m = known x (known-earlier b left (s .known) x m) p
 
         to : Member p v → p ∈ atomsIn (decoded (b .nodes) left)
@@ -125,13 +125,13 @@ module _
     -- what an instance has, read off its sides
     needed :
         UnstableSides b R left leftOne rightOne leftTwo rightTwo
-        → (k : ℕ) × (e : ℕ) × (c : Chosen) × Reads formulas words left leftOne rightOne rightTwo v k e c × Fitting b left leftTwo e c
+        → (k : ℕ) × (e : ℕ) × (c : Chosen) × Reads formulas notes left leftOne rightOne rightTwo v k e c × Fitting b left leftTwo e c
     needed i = by (unstable-iff .0 i)
       where
         by : {c : Chosen}
             → UnstableTest c (decoded (b .nodes) leftOne ⇒ decoded (b .nodes) rightOne)
             (decoded (b .nodes) leftTwo ⨾ decoded (b .nodes) rightTwo) (decoded (b .nodes) left ⇒ R)
-            → (k : ℕ) × (e : ℕ) × (c : Chosen) × Reads formulas words left leftOne rightOne rightTwo v k e c × Fitting b left leftTwo e c
+            → (k : ℕ) × (e : ℕ) × (c : Chosen) × Reads formulas notes left leftOne rightOne rightTwo v k e c × Fitting b left leftTwo e c
         by {c} t = (
           one .0,
           two .0,
@@ -164,7 +164,7 @@ module _
             head : (p : ℕ) × (ps : List ℕ) × (domain c ≡ p ∷ ps)
             head = inhabited (domain c) (t .member) (chosen-part c (t .member) (t .not-empty))
 
-    module _ {k e : ℕ} {c : Chosen} (f : Reads formulas words left leftOne rightOne rightTwo v k e c) where
+    module _ {k e : ℕ} {c : Chosen} (f : Reads formulas notes left leftOne rightOne rightTwo v k e c) where
       sound : (domain c ≡ f .p ∷ f .ps) × (decodedAt (b .nodes) k ≡ joined (map literal c))
       sound = choice-sound g (f .ps) k (f .p) c (one-known t₁ (f .first-right)) (f .read)
 
@@ -239,11 +239,11 @@ module _
             )
 
     -- an instance is as asked in any tables
-    pub instance-in : UnstableSides b R left leftOne rightOne leftTwo rightTwo → UnstableIn formulas words left leftOne rightOne leftTwo rightTwo
+    pub instance-in : UnstableSides b R left leftOne rightOne leftTwo rightTwo → UnstableIn formulas notes left leftOne rightOne leftTwo rightTwo
     instance-in i = by (needed i)
       where
-        by : (k : ℕ) × (e : ℕ) × (c : Chosen) × Reads formulas words left leftOne rightOne rightTwo v k e c × Fitting b left leftTwo e c
-            → UnstableIn formulas words left leftOne rightOne leftTwo rightTwo
+        by : (k : ℕ) × (e : ℕ) × (c : Chosen) × Reads formulas notes left leftOne rightOne rightTwo v k e c × Fitting b left leftTwo e c
+            → UnstableIn formulas notes left leftOne rightOne leftTwo rightTwo
         by (k, e, c, f, h) = record {
           v = v;
           k = k;
@@ -271,7 +271,7 @@ module _
             first = inhabited (chosen c) (h .member) (h .not-empty)
 
   -- what is asked in any tables makes an instance
-  pub in-instance : UnstableIn formulas words left leftOne rightOne leftTwo rightTwo → UnstableSides b R left leftOne rightOne leftTwo rightTwo
+  pub in-instance : UnstableIn formulas notes left leftOne rightOne leftTwo rightTwo → UnstableSides b R left leftOne rightOne leftTwo rightTwo
   in-instance u =
       let is-v = u .reads .atoms in
       fitting-instance is-v (u .reads) (record {

@@ -36,41 +36,41 @@ no-member is {p} {ps} e t h = true≢false (sym (sym e ∙ t) ∙ ap (λ (is : L
 not-refused : {o : Option Chosen} {c : Chosen} → o ≡ none → o ≡ some c → ⊥
 not-refused e f = let z : _≡_ {A = ℕ} 0 1 = cc in omega arith
 
-module _ (formulas words left leftOne rightOne leftTwo rightTwo : List ℕ) where
+module _ (formulas notes left leftOne rightOne leftTwo rightTwo : List ℕ) where
   abbrev In : Type 0
-  In = UnstableIn formulas words left leftOne rightOne leftTwo rightTwo
+  In = UnstableIn formulas notes left leftOne rightOne leftTwo rightTwo
 
   abbrev pub Step : Bool → Type 0
-  Step = UnstableStep formulas words left leftOne rightOne leftTwo rightTwo
+  Step = UnstableStep formulas notes left leftOne rightOne leftTwo rightTwo
 
   abbrev pub Read : ℕ → ℕ → ℕ → Chosen → Type 0
-  Read = Reads formulas words left leftOne rightOne rightTwo
+  Read = Reads formulas notes left leftOne rightOne rightTwo
 
   pub lefts-differ : (left ≡ leftOne → ⊥) → Step false
   lefts-differ n = record {
     answer = no-if (λ r u. n (u .reads .same-left));
-    decides = λ b R g w s s₁ t₁ s₂ t₂. decides-no (λ i. n (left-same g words w R s s₁ t₁ s₂ t₂ i));
+    decides = λ b R g w s s₁ t₁ s₂ t₂. decides-no (λ i. n (left-same g notes w R s s₁ t₁ s₂ t₂ i));
   }
 
   pub first-not-one : (length rightOne ≡ 1 → ⊥) → Step false
   first-not-one n = record {
     answer = no-if (λ r u. n (ap length (u .reads .first-right)));
-    decides = λ b R g w s s₁ t₁ s₂ t₂. decides-no (λ i. n (first-one g words w R s s₁ t₁ s₂ t₂ i));
+    decides = λ b R g w s s₁ t₁ s₂ t₂. decides-no (λ i. n (first-one g notes w R s s₁ t₁ s₂ t₂ i));
   }
 
   pub second-not-one : (length rightTwo ≡ 1 → ⊥) → Step false
   second-not-one n = record {
     answer = no-if (λ r u. n (ap length (u .reads .second-right)));
-    decides = λ b R g w s s₁ t₁ s₂ t₂. decides-no (λ i. n (second-one g words w R s s₁ t₁ s₂ t₂ i));
+    decides = λ b R g w s s₁ t₁ s₂ t₂. decides-no (λ i. n (second-one g notes w R s s₁ t₁ s₂ t₂ i));
   }
 
   -- v is the word of the atoms of L
-  module _ {v : ℕ} (is-v : WordOf (λ p. onSide words left p ≡ true) v) where
+  module _ {v : ℕ} (is-v : WordOf (λ p. onSide notes left p ≡ true) v) where
     step : {r : Bool} → DecidesIf (AllRise (leftTwo ∷ left ∷ [])) In r → Step r
     step d = record {
       answer = d;
       decides = λ b R g w s s₁ t₁ s₂ t₂.
-          decides-iff (in-instance g words w R s s₁ t₁ s₂ t₂, instance-in g words w R s s₁ t₁ s₂ t₂ is-v) (decided d (s₂ .rising, (s .rising, tt)));
+          decides-iff (in-instance g notes w R s s₁ t₁ s₂ t₂, instance-in g notes w R s s₁ t₁ s₂ t₂ is-v) (decided d (s₂ .rising, (s .rising, tt)));
     }
 
     fails : (In → ⊥) → Step false

@@ -17,8 +17,8 @@ word-unique {a} {b} wa wb =
 
 -- the atoms of a side, as they were gathered
 pub atoms-word :
-    (words side : List ℕ) (v : ℕ) → v < 2 ^ 64 → ((p : ℕ) → has v p ≡ onSide words side p) → WordOf (λ p. onSide words side p ≡ true) v
-atoms-word words side v h e = record { small = h; its = λ p. (λ m. sym (e p) ∙ m, λ t. e p ∙ t) }
+    (notes side : List ℕ) (v : ℕ) → v < 2 ^ 64 → ((p : ℕ) → has v p ≡ onSide notes side p) → WordOf (λ p. onSide notes side p ≡ true) v
+atoms-word notes side v h e = record { small = h; its = λ p. (λ m. sym (e p) ∙ m, λ t. e p ∙ t) }
 
 -- v without the members of set
 pub difference-word :

@@ -1,4 +1,4 @@
--- What `unst` asks of sides: in any tables by the shapes of formulas and the words of their atoms, and in tables that begin with
+-- What `unst` asks of sides: in any tables by the shapes of formulas and what is noted of their atoms, and in tables that begin with
 -- the formulas of a good body by the rule of the calculus.
 use Prim.Native.Nat.{ℕ, _^_, _<_}
 use mathlib.Core.Bool.{Bool, true}
@@ -16,7 +16,7 @@ use Rattle.format.specs.Text.{any}
 use Rattle.format.specs.File.{Body, decoded}
 use Rattle.atomset.specs.AtomSet.{has, Member, members}
 use Rattle.tables.specs.Holding.{Formulas, Sided}
-use Rattle.known.specs.Known.{AtomWords}
+use Rattle.known.specs.Known.{AtomNotes}
 use Rattle.sides.specs.Members.{AllRise}
 use Rattle.sides.specs.Deciding.{Decides, DecidesIf}
 use Rattle.unstable.specs.Joins.{choiceIn, middlesIn}
@@ -24,7 +24,7 @@ use Rattle.unstable.specs.Fixing.{Fixes}
 
 -- p is an atom of a formula of the side
 unfoldable pub onSide : List ℕ → List ℕ → ℕ → Bool
-onSide words side p = any (λ x. has (getD words x 0) p) side
+onSide notes side p = any (λ x. has (getD notes x 0) p) side
 
 -- the word of the atoms that have the property
 pub record WordOf (P : ℕ → Type 0) (w : ℕ) : Type 0 where
@@ -32,11 +32,11 @@ pub record WordOf (P : ℕ → Type 0) (w : ℕ) : Type 0 where
   pub its : (p : ℕ) → Member p w ↔ P p
 
 -- V, K and E as the sides of any tables have them, and the choice of S that K makes of V
-pub record Reads (formulas words left leftOne rightOne rightTwo : List ℕ) (v k e : ℕ) (c : Chosen) : Type 0 where
+pub record Reads (formulas notes left leftOne rightOne rightTwo : List ℕ) (v k e : ℕ) (c : Chosen) : Type 0 where
   pub same-left : left ≡ leftOne
   pub first-right : rightOne ≡ k ∷ []
   pub second-right : rightTwo ≡ e ∷ []
-  pub atoms : WordOf (λ p. onSide words left p ≡ true) v
+  pub atoms : WordOf (λ p. onSide notes left p ≡ true) v
   pub p : ℕ
   pub ps : List ℕ
   pub all : members v ≡ p ∷ ps
@@ -44,12 +44,12 @@ pub record Reads (formulas words left leftOne rightOne rightTwo : List ℕ) (v k
 
 -- What `unst` asks in any tables, whatever the row's right side: besides what is read, S is not empty, E joins its excluded
 -- middles, and the second premise's left side is L with ~~S and ~S'.
-pub record UnstableIn (formulas words left leftOne rightOne leftTwo rightTwo : List ℕ) : Type 0 where
+pub record UnstableIn (formulas notes left leftOne rightOne leftTwo rightTwo : List ℕ) : Type 0 where
   pub v : ℕ
   pub k : ℕ
   pub e : ℕ
   pub c : Chosen
-  pub reads : Reads formulas words left leftOne rightOne rightTwo v k e c
+  pub reads : Reads formulas notes left leftOne rightOne rightTwo v k e c
   pub set : ℕ
   pub in-set : WordOf (λ p. p ∈ chosen c) set
   pub others : ℕ
@@ -69,8 +69,8 @@ UnstableSides b R left leftOne rightOne leftTwo rightTwo =
 
 -- The answer for `unst`. Where the left sides of the row and of its second premise do not both rise strictly it is free, but true
 -- only where all is as asked; in a good body it decides whether the row is an instance.
-pub record UnstableStep (formulas words left leftOne rightOne leftTwo rightTwo : List ℕ) (r : Bool) : Type 0 where
-  pub answer : DecidesIf (AllRise (leftTwo ∷ left ∷ [])) (UnstableIn formulas words left leftOne rightOne leftTwo rightTwo) r
+pub record UnstableStep (formulas notes left leftOne rightOne leftTwo rightTwo : List ℕ) (r : Bool) : Type 0 where
+  pub answer : DecidesIf (AllRise (leftTwo ∷ left ∷ [])) (UnstableIn formulas notes left leftOne rightOne leftTwo rightTwo) r
   pub decides :
-      (b : Body) (R : List Formula) → Formulas b formulas → AtomWords b words → Sided b left → Sided b leftOne → Sided b rightOne
+      (b : Body) (R : List Formula) → Formulas b formulas → AtomNotes b notes → Sided b left → Sided b leftOne → Sided b rightOne
       → Sided b leftTwo → Sided b rightTwo → Decides (UnstableSides b R left leftOne rightOne leftTwo rightTwo) r

@@ -13,18 +13,18 @@ use atomset::union;
 use fixing::fixes;
 use joins::choice_by;
 use joins::joins_middles;
-use known::index::word;
+use known::index::note;
 use sides::members::same;
 use tables::records::wide;
 
 // The atoms of the formulas of a side.
-fn atoms_of_side(words: &[u64], side: &[u16]) -> u64
-    ensures { λ r. ⌜ ((p : ℕ) → hasAtom r p ≡ onSide (now (words .entry)) (now (side .entry)) p) ⌝ }
+fn atoms_of_side(notes: &[u64], side: &[u16]) -> u64
+    ensures { λ r. ⌜ ((p : ℕ) → hasAtom r p ≡ onSide (now (notes .entry)) (now (side .entry)) p) ⌝ }
 {
     let mut set = 0;
     let mut i = 0;
     while i < side.len() {
-        set = union(set, word(words, wide(side[i])));
+        set = union(set, note(notes, wide(side[i])));
         i += 1;
     }
     set
@@ -33,14 +33,14 @@ fn atoms_of_side(words: &[u64], side: &[u16]) -> u64
 // Whether a row L => R with premises of these sides is an instance of `unst`, whatever R.
 pub fn unstable_step(
     formulas: &[u16],
-    words: &[u64],
+    notes: &[u64],
     left: &[u16],
     left_one: &[u16],
     right_one: &[u16],
     left_two: &[u16],
     right_two: &[u16],
 ) -> bool
-    ensures { λ r. ⌜ UnstableStep (now (formulas .entry)) (now (words .entry)) (now (left .entry)) (now («left_one» .entry))
+    ensures { λ r. ⌜ UnstableStep (now (formulas .entry)) (now (notes .entry)) (now (left .entry)) (now («left_one» .entry))
         (now («right_one» .entry)) (now («left_two» .entry)) (now («right_two» .entry)) r ⌝ }
 {
     if !same(left, left_one) {
@@ -52,7 +52,7 @@ pub fn unstable_step(
     if right_two.len() != 1 {
         return false;
     }
-    let v = atoms_of_side(words, left);
+    let v = atoms_of_side(notes, left);
     if is_empty(v) {
         return false;
     }

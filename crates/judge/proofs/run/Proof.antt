@@ -15,13 +15,13 @@ use Rattle.judge.proofs.run.Statement.{statement}
 use Rattle.judge.proofs.run.Tie as tie
 
 abbrev Inv-loop : tie.InvT-loop
-Inv-loop text names₀ formulas₀ words₀ rows₀ left₀ right₀ state₀ at₀ line₀ end₀ names formulas words rows left right state at line end =
-    Running text line at state (tables names formulas words rows left right) × (end ≡ nextAt lineFeed text at)
-    × (length names ≡ length names₀) × (length formulas ≡ length formulas₀) × (length words ≡ length words₀)
+Inv-loop text names₀ formulas₀ notes₀ rows₀ left₀ right₀ state₀ at₀ line₀ end₀ names formulas notes rows left right state at line end =
+    Running text line at state (tables names formulas notes rows left right) × (end ≡ nextAt lineFeed text at)
+    × (length names ≡ length names₀) × (length formulas ≡ length formulas₀) × (length notes ≡ length notes₀)
     × (length rows ≡ length rows₀) × (length left ≡ length left₀) × (length right ≡ length right₀)
 
 abbrev μ-loop : tie.MeasureT-loop
-μ-loop text names₀ formulas₀ words₀ rows₀ left₀ right₀ state₀ at₀ line₀ end₀ names formulas words rows left right state at line end =
+μ-loop text names₀ formulas₀ notes₀ rows₀ left₀ right₀ state₀ at₀ line₀ end₀ names formulas notes rows left right state at line end =
     length text - at
 
 start-requires : tie.Need-start-requires Inv-loop μ-loop
@@ -34,7 +34,7 @@ loop-holds : tie.Need-loop-holds Inv-loop μ-loop
 loop-holds c =
     let entry = c .before .before .before .before .before .before .before .before .before in
     let args = entry .args in
-    let lent = tables (args .names .now) (args .formulas .now) (args .words .now) (args .rows .now) (args .left .now) (args .right .now) in
+    let lent = tables (args .names .now) (args .formulas .now) (args .notes .now) (args .rows .now) (args .left .now) (args .right .now) in
     let started = running-start (args .text .now) lent (entry .pre .1) (entry .pre .2) (entry .pre .3) in
     let first = subst (λ (s : State). Running (args .text .now) 1 0 s lent) (sym (c .before .start .ensures)) started in
     (first, c .find .ensures, refl, refl, refl, refl, refl, refl)
@@ -115,7 +115,7 @@ loop-again c =
       c .find2 .ensures,
       kept .names ∙ loop .inv .2,
       kept .formulas ∙ loop .inv .3,
-      kept .words ∙ loop .inv .4,
+      kept .notes ∙ loop .inv .4,
       kept .rows ∙ loop .inv .5,
       kept .left ∙ loop .inv .6,
       kept .right ∙ loop .inv .7,

@@ -40,8 +40,8 @@ put-node-requires c κs = search needs
 record-atoms-requires : tie.Need-record-atoms-requires
 record-atoms-requires c κs = search needs
 
-put-word-requires : tie.Need-put-word-requires
-put-word-requires c κs = search needs
+put-note-requires : tie.Need-put-note-requires
+put-note-requires c κs = search needs
 
 enter-node-requires : tie.Need-enter-node-requires
 enter-node-requires c κs = search needs
@@ -54,18 +54,18 @@ same-length-4 c = search needs
 
 returns-3 : tie.Need-returns-3
 returns-3 c =
-    let words-put = c .before .before .before .before .before .before in
-    let node-put = words-put .before .before .before .before .before .before in
+    let notes-put = c .before .before .before .before .before .before in
+    let node-put = notes-put .before .before .before .before .before .before in
     let told = node-put .before .before in
     let asked = told .before .before in
     let args = asked .before .before .before .before .before .before .args in
     let nowhere = subst (NodeFound _ _ _) (ap placeIn (told .enum-told .given .1)) (asked .find-node .ensures) in
     formula-entered (new (asked .before .before .before .if1 .left) nowhere (
     record {
-      atoms = words-put .before .record-atoms .result;
-      atoms-are = words-put .before .record-atoms .ensures;
+      atoms = notes-put .before .record-atoms .result;
+      atoms-are = notes-put .before .record-atoms .ensures;
       put = node-put .put-node .ensures;
-      noted = c .before .before .enter-node .ensures ∙ ap (λ (l : List ℕ). entered l (args .count) (nodeNumbers (args .key))) (words-put .put-word .ensures);
+      noted = c .before .before .enter-node .ensures ∙ ap (λ (l : List ℕ). entered l (args .count) (nodeNumbers (args .key))) (notes-put .put-note .ensures);
     }))
 
 pub enter-formula-spec : {M : Type 1} → statement M
@@ -81,7 +81,7 @@ enter-formula-spec =
     enum-told
     put-node-requires
     record-atoms-requires
-    put-word-requires
+    put-note-requires
     enter-node-requires
     same-length-3
     same-length-4

@@ -73,7 +73,7 @@ returns-6 c =
     let same-left = same-iff _ _ .0 (sym (at-same .same .ensures) ∙ not-false _ (at-atoms .before .before .before .if1 .left)) in
     let is-v = atoms-word _ _ _ (search needs) (at-atoms .atoms-of-side .ensures) in
     let f =
-    read-by (start .args .formulas .now) (start .args .words .now) (start .args .left .now) (start .args .left-one .now)
+    read-by (start .args .formulas .now) (start .args .notes .now) (start .args .left .now) (start .args .left-one .now)
     (start .args .right-one .now) (start .args .left-two .now) (start .args .right-two .now) is-v (at-choice .choice-by .ensures) same-left
     (at-atoms .before .before .if2 .left) (at-atoms .before .if3 .left) (at-empty .is-empty .ensures) (ap not (at-choice .before .before .if4 .left))
     (not-false _ (at-set .before .if5 .left)) (omega (arith, at-set .before .before .struct-known .given)) in
@@ -96,7 +96,7 @@ returns-7 c =
     let same-left = same-iff _ _ .0 (sym (at-same .same .ensures) ∙ not-false _ (at-atoms .before .before .before .if1 .left)) in
     let is-v = atoms-word _ _ _ (search needs) (at-atoms .atoms-of-side .ensures) in
     let f =
-    read-by (start .args .formulas .now) (start .args .words .now) (start .args .left .now) (start .args .left-one .now)
+    read-by (start .args .formulas .now) (start .args .notes .now) (start .args .left .now) (start .args .left-one .now)
     (start .args .right-one .now) (start .args .left-two .now) (start .args .right-two .now) is-v (at-choice .choice-by .ensures) same-left
     (at-atoms .before .before .if2 .left) (at-atoms .before .if3 .left) (at-empty .is-empty .ensures) (ap not (at-choice .before .before .if4 .left))
     (not-false _ (at-set .before .if5 .left)) (omega (arith, at-set .before .before .struct-known .given)) in
@@ -121,7 +121,7 @@ returns-8 c =
     let same-left = same-iff _ _ .0 (sym (at-same .same .ensures) ∙ not-false _ (at-atoms .before .before .before .if1 .left)) in
     let is-v = atoms-word _ _ _ (search needs) (at-atoms .atoms-of-side .ensures) in
     let f =
-    read-by (start .args .formulas .now) (start .args .words .now) (start .args .left .now) (start .args .left-one .now)
+    read-by (start .args .formulas .now) (start .args .notes .now) (start .args .left .now) (start .args .left-one .now)
     (start .args .right-one .now) (start .args .left-two .now) (start .args .right-two .now) is-v (at-choice .choice-by .ensures) same-left
     (at-atoms .before .before .if2 .left) (at-atoms .before .if3 .left) (at-empty .is-empty .ensures) (ap not (at-choice .before .before .if4 .left))
     (not-false _ (at-set .before .if5 .left)) (omega (arith, at-set .before .before .struct-known .given)) in

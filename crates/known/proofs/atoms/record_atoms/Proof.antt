@@ -14,26 +14,26 @@ use Rattle.known.specs.Known.{occursBy}
 use Rattle.known.proofs.atoms.record_atoms.Statement.{statement}
 use Rattle.known.proofs.atoms.record_atoms.Tie as tie
 
-module _ (words : List ℕ) (n : NodeRecord) (p : ℕ) where
-  of-atom : n .word ≡ 1 → occursBy words n p ≡ eqb p (n .first) && ltb (n .first) 64
+module _ (notes : List ℕ) (n : NodeRecord) (p : ℕ) where
+  of-atom : n .word ≡ 1 → occursBy notes n p ≡ eqb p (n .first) && ltb (n .first) 64
   unfolding occursBy
   of-atom e = simp (eq-eqb (n .word) 1 e)
 
   module _ (no-atom : n .word ≡ 1 → ⊥) where
-    of-not : n .word ≡ 2 → occursBy words n p ≡ has (getD words (n .first) 0) p
+    of-not : n .word ≡ 2 → occursBy notes n p ≡ has (getD notes (n .first) 0) p
     unfolding occursBy
     of-not e = simp (ne-eqb (n .word) 1 no-atom, eq-eqb (n .word) 2 e)
 
     module _ (no-not : n .word ≡ 2 → ⊥) where
-      of-less : n .word < 3 → occursBy words n p ≡ false
+      of-less : n .word < 3 → occursBy notes n p ≡ false
       unfolding occursBy
       of-less l = simp (ne-eqb (n .word) 1 no-atom, ne-eqb (n .word) 2 no-not, lt-leb 3 (n .word) l)
 
-      of-more : 3 ≤ n .word → 5 < n .word → occursBy words n p ≡ false
+      of-more : 3 ≤ n .word → 5 < n .word → occursBy notes n p ≡ false
       unfolding occursBy
       of-more l m = simp (ne-eqb (n .word) 1 no-atom, ne-eqb (n .word) 2 no-not, le-leb 3 (n .word) l, lt-leb (n .word) 5 m)
 
-      of-two : 3 ≤ n .word → n .word ≤ 5 → occursBy words n p ≡ has (getD words (n .first) 0) p || has (getD words (n .second) 0) p
+      of-two : 3 ≤ n .word → n .word ≤ 5 → occursBy notes n p ≡ has (getD notes (n .first) 0) p || has (getD notes (n .second) 0) p
       unfolding occursBy
       of-two l m = simp (ne-eqb (n .word) 1 no-atom, ne-eqb (n .word) 2 no-not, le-leb 3 (n .word) l, le-leb (n .word) 5 m)
 
@@ -48,34 +48,34 @@ returns c p =
     let args = c .before .before .before .before .args in
     c .single .ensures p
     ∙ ap (λ (k : ℕ). eqb p k && ltb k 64) (c .before .wide .ensures)
-    ∙ sym (of-atom (args .words .now) (args .key) p (c .before .before .if1 .taken))
+    ∙ sym (of-atom (args .notes .now) (args .key) p (c .before .before .if1 .taken))
 
-word-at-requires : tie.Need-word-at-requires
-word-at-requires c κs = search needs
+note-at-requires : tie.Need-note-at-requires
+note-at-requires c κs = search needs
 
 returns-2 : tie.Need-returns-2
 returns-2 c p =
     let args = c .before .before .before .before .args in
-    ap (λ (w : ℕ). has w p) (c .word-at .ensures)
-    ∙ sym (of-not (args .words .now) (args .key) p (c .before .before .if1 .left) (c .before .if2 .taken))
+    ap (λ (w : ℕ). has w p) (c .note-at .ensures)
+    ∙ sym (of-not (args .notes .now) (args .key) p (c .before .before .if1 .left) (c .before .if2 .taken))
 
 returns-3 : tie.Need-returns-3
 returns-3 c p =
     let args = c .before .before .before .before .args in
-    has-zero p ∙ sym (of-less (args .words .now) (args .key) p (c .before .before .if1 .left) (c .before .if2 .left) (c .if3 .taken))
+    has-zero p ∙ sym (of-less (args .notes .now) (args .key) p (c .before .before .if1 .left) (c .before .if2 .left) (c .if3 .taken))
 
 returns-4 : tie.Need-returns-4
 returns-4 c p =
     let args = c .before .before .before .before .before .args in
     has-zero p
-    ∙ sym (of-more (args .words .now) (args .key) p (c .before .before .before .if1 .left)
+    ∙ sym (of-more (args .notes .now) (args .key) p (c .before .before .before .if1 .left)
     (c .before .before .if2 .left) (c .before .if3 .left) (c .if4 .taken))
 
-word-at-requires-2 : tie.Need-word-at-requires-2
-word-at-requires-2 c κs = search needs
+note-at-requires-2 : tie.Need-note-at-requires-2
+note-at-requires-2 c κs = search needs
 
-word-at-requires-3 : tie.Need-word-at-requires-3
-word-at-requires-3 c κs = search needs
+note-at-requires-3 : tie.Need-note-at-requires-3
+note-at-requires-3 c κs = search needs
 
 union-requires : tie.Need-union-requires
 union-requires c κs = search needs
@@ -86,9 +86,9 @@ returns-5 c p =
     let passed = one .before in
     let args = passed .before .before .before .before .before .args in
     c .union .ensures p
-    ∙ ap₂ (λ (v w : ℕ). has v p || has w p) (one .word-at2 .ensures) (c .before .word-at3 .ensures)
+    ∙ ap₂ (λ (v w : ℕ). has v p || has w p) (one .note-at2 .ensures) (c .before .note-at3 .ensures)
     ∙ sym (
-    of-two (args .words .now) (args .key) p (passed .before .before .before .if1 .left) (passed .before .before .if2 .left) (passed .before .if3 .left)
+    of-two (args .notes .now) (args .key) p (passed .before .before .before .if1 .left) (passed .before .before .if2 .left) (passed .before .if3 .left)
     (passed .if4 .left))
 
 pub record-atoms-spec : {M : Type 1} → statement M
@@ -98,11 +98,11 @@ record-atoms-spec =
     wide-requires
     single-requires
     returns
-    word-at-requires
+    note-at-requires
     returns-2
     returns-3
     returns-4
-    word-at-requires-2
-    word-at-requires-3
+    note-at-requires-2
+    note-at-requires-3
     union-requires
     returns-5)

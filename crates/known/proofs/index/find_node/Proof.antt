@@ -11,34 +11,34 @@ use Rattle.format.specs.File.{Node}
 use Rattle.format.specs.Tables.{nodeRecord}
 use Rattle.tables.specs.Records.{nodeNumbers}
 use Rattle.tables.specs.Holding.{HoldsNodes}
-use Rattle.known.specs.Index.{slotWords, Indexed}
+use Rattle.known.specs.Index.{slotNotes, Indexed}
 use Rattle.format.proofs.Equal.{same-iff}
 use Rattle.known.proofs.Indexing.{record-there, Cursor, walk-start, walk-next, walk-falls, found-at, found-nowhere}
 use Rattle.known.proofs.index.find_node.Statement.{statement}
 use Rattle.known.proofs.index.find_node.Tie as tie
 
 abbrev Inv-loop : tie.InvT-loop
-Inv-loop formulas words key after₀ after =
-    (nodes : List Node) → HoldsNodes nodes formulas → Indexed nodes words → Cursor nodes (nodeNumbers key) after
+Inv-loop formulas notes key after₀ after =
+    (nodes : List Node) → HoldsNodes nodes formulas → Indexed nodes notes → Cursor nodes (nodeNumbers key) after
 
 abbrev μ-loop : tie.MeasureT-loop
-μ-loop formulas words key after₀ after = after
+μ-loop formulas notes key after₀ after = after
 
 slot-requires : tie.Need-slot-requires Inv-loop μ-loop
 slot-requires c κs = search needs
 
-add-word : tie.Need-add-word Inv-loop μ-loop
-add-word c = omega (arith, c .slot .ensures)
+add-note : tie.Need-add-note Inv-loop μ-loop
+add-note c = omega (arith, c .slot .ensures)
 
-word-requires : tie.Need-word-requires Inv-loop μ-loop
-word-requires c κs = search needs
+note-requires : tie.Need-note-requires Inv-loop μ-loop
+note-requires c κs = search needs
 
 loop-holds : tie.Need-loop-holds Inv-loop μ-loop
 loop-holds c nodes held index =
     let args = c .before .before .before .before .args in
     subst (Cursor nodes (nodeNumbers (args .key)))
-    (sym (c .word .ensures ∙ ap (λ (s : ℕ). getD (args .words .now) (slotWords + s) 0) (c .before .slot .ensures)))
-    (walk-start nodes (nodeNumbers (args .key)) (args .words .now) index)
+    (sym (c .note .ensures ∙ ap (λ (s : ℕ). getD (args .notes .now) (slotNotes + s) 0) (c .before .slot .ensures)))
+    (walk-start nodes (nodeNumbers (args .key)) (args .notes .now) index)
 
 sub-i : tie.Need-sub-i Inv-loop μ-loop
 sub-i c = omega arith
@@ -70,8 +70,8 @@ loop-again c nodes held index =
     let other : nodeRecord (getD nodes i Node.bot) ≡ nodeNumbers (args .key) → ⊥ =
     λ e. true≢false (sym (c .before .before .has-record .ensures ∙ same-iff _ _ .1 (record-there held i here ∙ e)) ∙ c .before .if1 .left) in
     subst (Cursor nodes (nodeNumbers (args .key)))
-    (sym (c .past-last .ensures .1 (omega (arith, index .few)) (walk-falls nodes (nodeNumbers (args .key)) (args .words .now) index i at)))
-    (walk-next nodes (nodeNumbers (args .key)) (args .words .now) index i at other)
+    (sym (c .past-last .ensures .1 (omega (arith, index .few)) (walk-falls nodes (nodeNumbers (args .key)) (args .notes .now) index i at)))
+    (walk-next nodes (nodeNumbers (args .key)) (args .notes .now) index i at other)
 
 returns-2 : tie.Need-returns-2 Inv-loop μ-loop
 returns-2 c =
@@ -86,8 +86,8 @@ find-node-spec =
     Inv-loop
     μ-loop
     slot-requires
-    add-word
-    word-requires
+    add-note
+    note-requires
     loop-holds
     sub-i
     has-record-requires

@@ -13,7 +13,7 @@ rule-number-requires : tie.Need-rule-number-requires
 rule-number-requires c κs = search needs
 
 returns : tie.Need-returns
-returns c b q formulas words leftPool rightPool left right j =
+returns c b q formulas notes leftPool rightPool left right j =
     ten-principal j _ _ (c .before .before .named .ensures) (c .before .rule-number .ensures) (c .if1 .taken)
 
 rule-number-requires-2 : tie.Need-rule-number-requires-2
@@ -23,14 +23,14 @@ count-requires : tie.Need-count-requires
 count-requires c κs = search needs
 
 returns-2 : tie.Need-returns-2
-returns-2 c b q formulas words leftPool rightPool left right j =
+returns-2 c b q formulas notes leftPool rightPool left right j =
     let counted = c .before .before in
     let named = counted .before .before in
     ten-count j _ _ (named .before .before .named .ensures) (named .before .rule-number .ensures) (named .if1 .left) _
     (counted .count .ensures ∙ counted .before .rule-number2 .ensures) (c .if2 .taken)
 
 returns-3 : tie.Need-returns-3
-returns-3 c b q formulas words leftPool rightPool left right j =
+returns-3 c b q formulas notes leftPool rightPool left right j =
     let counts = c .before in
     let counted = counts .before .before in
     let named = counted .before .before in
@@ -44,7 +44,7 @@ rule-number-requires-3 : tie.Need-rule-number-requires-3
 rule-number-requires-3 c κs = search needs
 
 returns-4 : tie.Need-returns-4
-returns-4 c b q formulas words leftPool rightPool left right j =
+returns-4 c b q formulas notes leftPool rightPool left right j =
     let some = c .before .before .before in
     let counts = some .before in
     let counted = counts .before .before in
@@ -54,7 +54,7 @@ returns-4 c b q formulas words leftPool rightPool left right j =
     (c .before .before .kind-of .ensures) (c .before .rule-number3 .ensures) (c .if4 .taken)
 
 returns-5 : tie.Need-returns-5
-returns-5 c b q formulas words leftPool rightPool left right j =
+returns-5 c b q formulas notes leftPool rightPool left right j =
     let first = c .before in
     let some = first .before .before .before in
     let counts = some .before in
@@ -71,7 +71,7 @@ rule-number-requires-4 : tie.Need-rule-number-requires-4
 rule-number-requires-4 c κs = search needs
 
 returns-6 : tie.Need-returns-6
-returns-6 c b q formulas words leftPool rightPool left right j =
+returns-6 c b q formulas notes leftPool rightPool left right j =
     let more = c .before .before .before in
     let first = more .before in
     let some = first .before .before .before in
@@ -84,7 +84,7 @@ returns-6 c b q formulas words leftPool rightPool left right j =
     (c .before .before .kind-of2 .ensures) (c .before .rule-number4 .ensures) (c .if6 .taken)
 
 returns-7 : tie.Need-returns-7
-returns-7 c b q formulas words leftPool rightPool left right j =
+returns-7 c b q formulas notes leftPool rightPool left right j =
     let more = c .before .before .before in
     let first = more .before in
     let some = first .before .before .before in
