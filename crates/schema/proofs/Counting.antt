@@ -15,47 +15,55 @@ use Rattle.sides.proofs.SharedSides.{shared-one}
 use Rattle.schema.specs.Additions.{addedIn, sideIn, sidesIn}
 use Rattle.schema.specs.declared.parts.Parts.{Parts}
 
-module _ (formulas : List ℕ) (p : Parts) (rule place : ℕ) (side one two : List ℕ) where
-  -- the answer to whether the sides, each with what is added to it, share a set
-  abbrev Answers : ℕ → Bool → Type 0
-  Answers n r = DecidesIf (AllRise (side ∷ take n (one ∷ two ∷ []))) (Shared (sidesIn formulas p rule n place side one two)) r
-
+module _ (formulas : List ℕ) (p : Parts) (rule place : ℕ) (side : List ℕ) where
   abbrev Here : Numbers → Type 0
   Here here = here ≡ addedIn formulas side p rule place
 
-  abbrev AtOne : Numbers → Type 0
-  AtOne at-one = at-one ≡ addedIn formulas one p rule (place + 2)
-
-  abbrev AtTwo : Numbers → Type 0
-  AtTwo at-two = at-two ≡ addedIn formulas two p rule (place + 4)
-
-  pub no-premise : (n : ℕ) → n ≡ 0 → {here : Numbers} {r : Bool} → Here here → Decides (numbersOf here ⊆ side) r → Answers n r
-  no-premise zero e {r = r} h d =
-      let alone = shared-one (sideIn formulas p rule place side) in
+  pub alone :
+      {here : Numbers} {r : Bool} → Here here → Decides (numbersOf here ⊆ side) r
+      → DecidesIf (AllRise (side ∷ [])) (Shared (sideIn formulas p rule place side ∷ [])) r
+  alone {r = r} h d =
+      let shared = shared-one (sideIn formulas p rule place side) in
       let decided = subst (λ (k : Numbers). Decides (numbersOf k ⊆ side) r) h d in
-      record { sound = λ t. alone .0 (decided .sound t); complete = λ g k. decided .complete (alone .1 k) }
-  no-premise (suc n) e h d = absurd (omega arith)
+      record { sound = λ t. shared .0 (decided .sound t); complete = λ g k. decided .complete (shared .1 k) }
 
-  pub one-premise :
-      (n : ℕ) → n ≡ 1 → {here at-one : Numbers} {r : Bool} → Here here → AtOne at-one
-      → DecidesIf (AllRise (side ∷ one ∷ [])) (Shared (numberSide side here ∷ numberSide one at-one ∷ [])) r → Answers n r
-  one-premise zero e h k d = absurd (omega arith)
-  one-premise (suc zero) e {r = r} h k d =
-      subst (λ (X : Type 0). X) (λ i. DecidesIf (AllRise (side ∷ one ∷ [])) (Shared (numberSide side (h i) ∷ numberSide one (k i) ∷ [])) r) d
-  one-premise (suc (suc n)) e h k d = absurd (omega arith)
+  module _ (one two : List ℕ) where
+    -- the answer to whether the sides, each with what is added to it, share a set
+    abbrev Answers : ℕ → Bool → Type 0
+    Answers n r = DecidesIf (AllRise (side ∷ take n (one ∷ two ∷ []))) (Shared (sidesIn formulas p rule n place side one two)) r
 
-  pub two-premises :
-      (n : ℕ) → 2 ≤ n → {here at-one at-two : Numbers} {r : Bool} → Here here → AtOne at-one → AtTwo at-two
-      → DecidesIf (AllRise (side ∷ one ∷ two ∷ [])) (Shared (numberSide side here ∷ numberSide one at-one ∷ numberSide two at-two ∷ [])) r → Answers n r
-  two-premises n l {r = r} h k m d = by n l
-    where
-      named : DecidesIf (AllRise (side ∷ one ∷ two ∷ [])) (Shared (sidesIn formulas p rule 2 place side one two)) r
-      named =
-          subst (λ (X : Type 0). X) (λ i.
-          DecidesIf (AllRise (side ∷ one ∷ two ∷ [])) (Shared (numberSide side (h i) ∷ numberSide one (k i) ∷ numberSide two (m i) ∷ [])) r) d
+    abbrev AtOne : Numbers → Type 0
+    AtOne at-one = at-one ≡ addedIn formulas one p rule (place + 2)
 
-      by : (n : ℕ) → 2 ≤ n → Answers n r
-      by zero l = absurd (omega arith)
-      by (suc zero) l = absurd (omega arith)
-      by (suc (suc zero)) l = named
-      by (suc (suc (suc n))) l = named
+    abbrev AtTwo : Numbers → Type 0
+    AtTwo at-two = at-two ≡ addedIn formulas two p rule (place + 4)
+
+    pub with-one :
+        {here at-one : Numbers} {r : Bool} → Here here → AtOne at-one
+        → DecidesIf (AllRise (side ∷ one ∷ [])) (Shared (numberSide side here ∷ numberSide one at-one ∷ [])) r → Answers 1 r
+    with-one {r = r} h k d =
+        subst (λ (X : Type 0). X) (λ i. DecidesIf (AllRise (side ∷ one ∷ [])) (Shared (numberSide side (h i) ∷ numberSide one (k i) ∷ [])) r) d
+
+    pub with-two :
+        {here at-one at-two : Numbers} {r : Bool} → Here here → AtOne at-one → AtTwo at-two
+        → DecidesIf (AllRise (side ∷ one ∷ two ∷ [])) (Shared (numberSide side here ∷ numberSide one at-one ∷ numberSide two at-two ∷ [])) r
+        → Answers 2 r
+    with-two {r = r} h k m d =
+        subst (λ (X : Type 0). X) (λ i.
+        DecidesIf (AllRise (side ∷ one ∷ two ∷ [])) (Shared (numberSide side (h i) ∷ numberSide one (k i) ∷ numberSide two (m i) ∷ [])) r) d
+
+    -- the answer for the count of premises that there is
+    pub no-premise : (n : ℕ) → n ≡ 0 → {r : Bool} → Answers 0 r → Answers n r
+    no-premise zero e d = d
+    no-premise (suc n) e d = absurd (omega arith)
+
+    pub one-premise : (n : ℕ) → n ≡ 1 → {r : Bool} → Answers 1 r → Answers n r
+    one-premise zero e d = absurd (omega arith)
+    one-premise (suc zero) e d = d
+    one-premise (suc (suc n)) e d = absurd (omega arith)
+
+    pub two-premises : (n : ℕ) → 2 ≤ n → {r : Bool} → Answers 2 r → Answers n r
+    two-premises zero l d = absurd (omega arith)
+    two-premises (suc zero) l d = absurd (omega arith)
+    two-premises (suc (suc zero)) l d = d
+    two-premises (suc (suc (suc n))) l d = d

@@ -5,12 +5,11 @@ mod parts;
 
 ghost use mathlib.Core.Path.{_≡_};
 ghost use mathlib.Core.List.{[], _∷_};
-ghost use Prim.Native.Nat.{_<_};
-ghost use lib.ListN.{take};
+ghost use Prim.Native.Nat.{_+_, _<_};
 ghost use Rattle.elk.specs.CommonSets.{Shared};
 ghost use Rattle.sides.specs.Deciding.{DecidesIf};
 ghost use Rattle.sides.specs.Members.{AllRise};
-ghost use Rattle.schema.specs.Additions.{sidesIn};
+ghost use Rattle.schema.specs.Additions.{sideIn};
 ghost use Rattle.schema.specs.SchemaRows.{_⊣_, SchemaAnswer};
 use additions::added;
 use parts::Parts;
@@ -26,29 +25,47 @@ const LEFT: usize = 0;
 
 const RIGHT: usize = 1;
 
-// Whether one side of the row and that side of its premises are L, or R, with what the rule adds.
-fn side_fits(
+// Whether some set gives one side, left or right, of a row that has no premises, with what the rule adds there. Each count of
+// premises has a function of its own: these are small enough to be compiled into `schema_step`.
+fn fits_alone(formulas: &[u16], rule: u16, p: Parts, place: usize, side: &[u16]) -> bool
+    requires { ⌜ place < 2 ⌝ }
+    ensures { λ r. ⌜ DecidesIf (AllRise (now (side .entry) ∷ []))
+        (Shared (sideIn (now (formulas .entry)) p rule place (now (side .entry)) ∷ [])) r ⌝ }
+{
+    let here = added(formulas, side, p, rule, place);
+    holds(side, here)
+}
+
+// The same of a row and its one premise.
+fn fits_one(formulas: &[u16], rule: u16, p: Parts, place: usize, side: &[u16], one: &[u16]) -> bool
+    requires { ⌜ place < 2 ⌝ }
+    ensures { λ r. ⌜ DecidesIf (AllRise (now (side .entry) ∷ now (one .entry) ∷ []))
+        (Shared (sideIn (now (formulas .entry)) p rule place (now (side .entry))
+        ∷ sideIn (now (formulas .entry)) p rule (place + 2) (now (one .entry)) ∷ [])) r ⌝ }
+{
+    let here = added(formulas, side, p, rule, place);
+    let at_one = added(formulas, one, p, rule, place + 2);
+    fit(side, here, one, at_one)
+}
+
+// The same of a row and its two premises.
+fn fits_two(
     formulas: &[u16],
     rule: u16,
     p: Parts,
-    premises: usize,
     place: usize,
     side: &[u16],
     one: &[u16],
     two: &[u16],
 ) -> bool
     requires { ⌜ place < 2 ⌝ }
-    ensures { λ r. ⌜ DecidesIf (AllRise (now (side .entry) ∷ take premises (now (one .entry) ∷ now (two .entry) ∷ [])))
-        (Shared (sidesIn (now (formulas .entry)) p rule premises place (now (side .entry)) (now (one .entry)) (now (two .entry)))) r ⌝ }
+    ensures { λ r. ⌜ DecidesIf (AllRise (now (side .entry) ∷ now (one .entry) ∷ now (two .entry) ∷ []))
+        (Shared (sideIn (now (formulas .entry)) p rule place (now (side .entry))
+        ∷ sideIn (now (formulas .entry)) p rule (place + 2) (now (one .entry))
+        ∷ sideIn (now (formulas .entry)) p rule (place + 4) (now (two .entry)) ∷ [])) r ⌝ }
 {
     let here = added(formulas, side, p, rule, place);
-    if premises == 0 {
-        return holds(side, here);
-    }
     let at_one = added(formulas, one, p, rule, place + 2);
-    if premises == 1 {
-        return fit(side, here, one, at_one);
-    }
     let at_two = added(formulas, two, p, rule, place + 4);
     three_fit(side, here, one, at_one, two, at_two)
 }
@@ -87,17 +104,20 @@ pub fn schema_step(
     if !p.fits {
         return false;
     }
-    if !side_fits(formulas, rule, p, premises, LEFT, left, left_one, left_two) {
+    if premises == 0 {
+        if !fits_alone(formulas, rule, p, LEFT, left) {
+            return false;
+        }
+        return fits_alone(formulas, rule, p, RIGHT, right);
+    }
+    if premises == 1 {
+        if !fits_one(formulas, rule, p, LEFT, left, left_one) {
+            return false;
+        }
+        return fits_one(formulas, rule, p, RIGHT, right, right_one);
+    }
+    if !fits_two(formulas, rule, p, LEFT, left, left_one, left_two) {
         return false;
     }
-    side_fits(
-        formulas,
-        rule,
-        p,
-        premises,
-        RIGHT,
-        right,
-        right_one,
-        right_two,
-    )
+    fits_two(formulas, rule, p, RIGHT, right, right_one, right_two)
 }
