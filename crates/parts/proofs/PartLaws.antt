@@ -347,11 +347,8 @@ module _ (line : Bytes) (f : Fields) (i : ℕ) where
   pub no-field-end : length line < getD (f .ends) i 0 → FieldPart line f i []
   no-field-end h = field-part (none-by-end h)
 
-  pub no-field-start : (i ≡ 0 → ⊥) → getD (f .ends) i 0 ≤ getD (f .ends) (i - 1) 0
-      → FieldPart line f i (between line (getD (f .ends) i 0) (getD (f .ends) i 0))
-  no-field-start n h =
-      let size : getD (f .ends) i 0 - getD (f .ends) i 0 ≡ 0 = omega arith in
-      field-part (none-by-start (omega (arith, start-past (f .ends) i n)) ∙ sym (ap (λ k. take k (drop (getD (f .ends) i 0) line)) size))
+  pub no-field-start : (i ≡ 0 → ⊥) → getD (f .ends) i 0 ≤ getD (f .ends) (i - 1) 0 → FieldPart line f i []
+  no-field-start n h = field-part (none-by-start (omega (arith, start-past (f .ends) i n)))
 
   module _ (few : i < mostFields) (inside : getD (f .ends) i 0 ≤ length line) where
     pub field-first : i ≡ 0 → FieldPart line f i (take (getD (f .ends) i 0) line)

@@ -116,9 +116,8 @@ pub fn field(line: &[u8], fields: Fields, i: usize) -> &[u8]
         return &line[..end];
     }
     let before = fields.ends[i - 1];
-    // Empty at its end, since that is cheaper than at the line's start.
     if before >= end {
-        return &line[end..end];
+        return &line[..0];
     }
     let start = before + 1;
     &line[start..end]

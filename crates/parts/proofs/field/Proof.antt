@@ -39,6 +39,15 @@ mul-before c = search needs
 element-copy-out-before : tie.Need-element-copy-out-before
 element-copy-out-before c = search needs
 
+slice-aggregate-result-4 : tie.Need-slice-aggregate-result-4
+slice-aggregate-result-4 c = search needs
+
+returns-4 : tie.Need-returns-4
+returns-4 c = no-field-start _ _ _ (c .before .before .before .if3 .left) (omega arith)
+
+add-start : tie.Need-add-start
+add-start c = search needs
+
 sub-result : tie.Need-sub-result
 sub-result c = search needs
 
@@ -47,21 +56,6 @@ part-result-start c = search needs
 
 part-result-end : tie.Need-part-result-end
 part-result-end c = search needs
-
-returns-4 : tie.Need-returns-4
-returns-4 c = no-field-start _ _ _ (c .before .before .before .if3 .left) (omega arith)
-
-add-start : tie.Need-add-start
-add-start c = search needs
-
-sub-result-2 : tie.Need-sub-result-2
-sub-result-2 c = search needs
-
-part-result-start-2 : tie.Need-part-result-start-2
-part-result-start-2 c = search needs
-
-part-result-end-2 : tie.Need-part-result-end-2
-part-result-end-2 c = search needs
 
 returns-5 : tie.Need-returns-5
 returns-5 c = field-later _ _ _ (omega arith) (omega arith) (c .before .before .before .if3 .left) (omega arith)
@@ -81,12 +75,10 @@ field-spec =
     sub-before
     mul-before
     element-copy-out-before
+    slice-aggregate-result-4
+    returns-4
+    add-start
     sub-result
     part-result-start
     part-result-end
-    returns-4
-    add-start
-    sub-result-2
-    part-result-start-2
-    part-result-end-2
     returns-5)
