@@ -1,6 +1,6 @@
 // Prints answers, and what tables hold.
 ghost use Rattle.io.specs.Counts.{Counts};
-use judge::Answer;
+use answers::Answer;
 use libc::STDOUT_FILENO;
 
 fn put(bytes: &[u8]) {
