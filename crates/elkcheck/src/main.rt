@@ -2,7 +2,7 @@
 // it says so on standard error, and a failed read leaves standard output empty: trouble never looks like a verdict.
 ghost use Prim.Native.Nat.{_≤_};
 ghost use lib.ListN.{length};
-use judge::Answer;
+use answers::Answer;
 use judge::elk_check;
 use libc::STDIN_FILENO;
 use libc::STDOUT_FILENO;

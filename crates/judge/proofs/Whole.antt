@@ -1,14 +1,15 @@
 -- The whole answer: by the lengths of the tables and the text, and then by the run over its lines.
 use Prim.Native.Nat.{ℕ, _*_, _≤_, _<_}
 use native.Mathlib.Nat.{sub-zero}
-use mathlib.Core.Path.{_≡_, sym, ap, ap₂, _∙_}
+use native.Mathlib.Omega.{arith}
+use mathlib.Core.Path.{_≡_, refl, sym, ap, ap₂, subst, _∙_}
 use mathlib.Core.Bool.{Bool, true, false, _||_}
 use mathlib.Core.List.{List, [], _∷_}
 use mathlib.Core.Logic.{_⊎_, inl, inr, ⊎-elim}
 use mathlib.Core.Option.{Option, none, some}
 use lib.Dec.{ltb}
 use lib.ListN.{length, replicate, length-replicate}
-use borrow.Author.Tests.{lt-ltb, le-ltb, ltb-false}
+use borrow.Author.Tests.{lt-ltb, le-ltb, ltb-true, ltb-false}
 use Rattle.format.specs.Text.{Bytes}
 use Rattle.format.specs.File.{noFile}
 use Rattle.format.specs.Tests.{Test, _when_, first}
@@ -18,8 +19,13 @@ use Rattle.format.proofs.Booleans.{or-false}
 use Rattle.format.proofs.Stepping.{first-applies, first-passes}
 use Rattle.format.proofs.Accepted.{accepted-holds}
 use Rattle.state.specs.State.{Full, Memory}
-use Rattle.judge.specs.Contract.{five, lengths, filled, clear, Judges, Accepts, Refuses, Zeros}
-use Rattle.judge.specs.declared.Answer.{Answer}
+use Rattle.run.specs.Lent.{five, fiveOf, lengths, clear, Zeros}
+use Rattle.run.specs.Running.{Fresh, RunOver}
+use Rattle.run.specs.declared.Ran.{Ran}
+use Rattle.answers.specs.Answers.{finished, filled, Accepts}
+use Rattle.answers.specs.declared.Answer.{Answer}
+use Rattle.answers.proofs.Ends.{ends}
+use Rattle.judge.specs.Contract.{Judges}
 
 module _ (text : Bytes) (lent : Lent) where
   by-tests : (o : Option ℕ) → first (wholeTests lent text) ≡ o → judged lent text ≡ orWhole o (answerFrom top text noFile)
@@ -36,11 +42,11 @@ module _ (text : Bytes) (lent : Lent) where
   unfolding short long
   judged-short e = by-tests (some 1) (first-applies short (long ∷ []) e)
 
-  pub judged-long : tooShort lent ≡ false → mostBytes < length text → judged lent text ≡ turnedDown 2 0
+  judged-long : tooShort lent ≡ false → mostBytes < length text → judged lent text ≡ turnedDown 2 0
   unfolding short long
   judged-long e h = by-tests (some 2) (first-passes short (long ∷ []) e ∙ first-applies long [] (lt-ltb mostBytes (length text) h))
 
-  pub judged-read : tooShort lent ≡ false → length text ≤ mostBytes → judged lent text ≡ answerFrom top text noFile
+  judged-read : tooShort lent ≡ false → length text ≤ mostBytes → judged lent text ≡ answerFrom top text noFile
   unfolding short long
   judged-read e h = by-tests none (first-passes short (long ∷ []) e ∙ first-passes long [] (le-ltb mostBytes (length text) h))
 
@@ -48,15 +54,15 @@ module _ (text : Bytes) (lent : Lent) where
   unfolding contents
   contents-by a e = ap (λ (b : Ruling). heldBy b (beginning text)) e
 
-  module _ (t : Contents) (answer : Answer) (same : lengths t ≡ lent) where
+  module _ (t : Contents) (answer : Answer) where
     -- a refusal that left every table clear
-    pub judges-cleared : judged lent text ≡ turnedDown (answer .number) (answer .line) → (answer .number ≡ 0 → ⊥) → Zeros t
+    pub judges-cleared : judged lent text ≡ turnedDown (answer .number) (answer .line) → (answer .number ≡ 0 → ⊥) → t ≡ clear lent
         → Judges text lent t answer
-    judges-cleared e refusal zeros =
+    judges-cleared e refusal cleared =
         record {
           number = sym (ap numberIn e);
           line = sym (ap lineIn e);
-          tables = zeros ∙ ap clear same ∙ nothing ∙ ap (filled lent) (sym (contents-by (turnedDown (answer .number) (answer .line)) e));
+          tables = cleared ∙ nothing ∙ ap (filled lent) (sym (contents-by (turnedDown (answer .number) (answer .line)) e));
           claim-holds = λ z. absurd (refusal z);
         }
       where
@@ -69,8 +75,8 @@ module _ (text : Bytes) (lent : Lent) where
             (none-in (lent .right) i)
 
     -- an acceptance, with the tables that the run left
-    judges-accepted : judged lent text ≡ answerFrom top text noFile → Accepts text t answer → Judges text lent t answer
-    judges-accepted e a =
+    judges-accepted : judged lent text ≡ answerFrom top text noFile → lengths t ≡ lent → Accepts text t answer → Judges text lent t answer
+    judges-accepted e same a =
         record {
           number = a .number ∙ sym (ap numberIn whole);
           line = sym (ap lineIn whole);
@@ -84,29 +90,57 @@ module _ (text : Bytes) (lent : Lent) where
         held : contents lent text ≡ encode (a .file)
         held = contents-by (accepted (answer .line)) whole ∙ ap (heldBy (accepted (answer .line))) (a .is-file)
 
-    -- what the run left, where it is clear again on refusal
-    pub judges-run : judged lent text ≡ answerFrom top text noFile → Accepts text t answer ⊎ (Refuses text answer × Zeros t)
-        → Judges text lent t answer
-    judges-run e (inl a) = judges-accepted e a
-    judges-run e (inr r) = judges-cleared (e ∙ r .0 .line) (r .0 .number) (r .1)
+-- the run over a text in fresh tables, and the answer after it
+module _ {text : Bytes} {ran : Ran} {before after : Memory} {answer : Answer} (enough : tooShort (lengths (fiveOf before)) ≡ false)
+    (fresh : Fresh before) (over : RunOver text ran before after) (made : answer ≡ finished (length text) ran) where
+  lent : Lent
+  lent = lengths (fiveOf before)
 
--- the lengths are those of the lent tables
-pub same-lengths : (t : Contents) (lent : Lent) → length (t .names) ≡ lent .names → length (t .formulas) ≡ lent .formulas
-    → length (t .rows) ≡ lent .rows → length (t .left) ≡ lent .left → length (t .right) ≡ lent .right → lengths t ≡ lent
-same-lengths t lent n f r a b = λ i. record { names = n i; formulas = f i; rows = r i; left = a i; right = b i }
+  same : lengths (fiveOf after) ≡ lent
+  unfolding lent
+  same =
+      let kept = over .lengths in
+      λ i. record { names = kept .names i; formulas = kept .formulas i; rows = kept .rows i; left = kept .left i; right = kept .right i }
 
-module _ {text : Bytes} {t : Contents} {answer : Answer} (ran : Accepts text t answer ⊎ Refuses text answer) where
-  -- accepted: the tables stay
-  pub kept : answer .number ≡ 0 → Accepts text t answer ⊎ (Refuses text answer × Zeros t)
-  kept e = ⊎-elim (λ a. inl a) (λ r. absurd (r .number e)) ran
+  Accepted : Answer → Type 0
+  Accepted a = (judged lent text ≡ answerFrom top text noFile) × Accepts text (fiveOf after) a
 
-  -- refused: whatever the tables then hold
-  pub refuses : (answer .number ≡ 0 → ⊥) → Refuses text answer
-  refuses n = ⊎-elim (λ a. absurd (n (a .number))) (λ r. r) ran
+  Refused : Answer → Type 0
+  Refused a = (judged lent text ≡ turnedDown (a .number) (a .line)) × (a .number ≡ 0 → ⊥)
+
+  either : Accepted answer ⊎ Refused answer
+  unfolding lent Accepted Refused finished
+  either = subst (λ (a : Answer). Accepted a ⊎ Refused a) (sym made) (by-length (ltb mostBytes (length text)) refl)
+    where
+      by-length : (long : Bool) → ltb mostBytes (length text) ≡ long → Accepted (finished (length text) ran) ⊎ Refused (finished (length text) ran)
+      by-length true e =
+          let long = ltb-true mostBytes (length text) e in
+          subst (λ (r : Ran). Accepted (finished (length text) r) ⊎ Refused (finished (length text) r)) (sym (over .too-long long .0))
+          (inr (judged-long text lent enough long, λ z. omega (arith, z)))
+      by-length false e =
+          let few = ltb-false mostBytes (length text) e in
+          let read = judged-read text lent enough few in
+          ⊎-elim (λ a. inl (read, a)) (λ r. inr (read ∙ r .line, r .number)) (ends text ran after (over .runs few fresh))
+
+  -- number 0: the tables stay as the run left them
+  pub judges-kept : answer .number ≡ 0 → Judges text (lengths (fiveOf before)) (fiveOf after) answer
+  unfolding lent Accepted Refused
+  judges-kept e = ⊎-elim (λ a. judges-accepted text lent (fiveOf after) answer (a .0) same (a .1)) (λ r. absurd (r .1 e)) either
+
+  -- another number: they have been cleared
+  pub judges-again-clear : {t : Contents} → (answer .number ≡ 0 → ⊥) → t ≡ clear (lengths (fiveOf after))
+      → Judges text (lengths (fiveOf before)) t answer
+  unfolding lent Accepted Refused
+  judges-again-clear {t} n cleared =
+      ⊎-elim (λ a. absurd (n (a .1 .number))) (λ r. judges-cleared text lent t answer (r .0) n (cleared ∙ ap clear same)) either
+
+-- the same promise by equal lengths
+pub judges-same : {text : Bytes} {lent lent′ : Lent} {t : Contents} {answer : Answer} → lent ≡ lent′ → Judges text lent t answer
+    → Judges text lent′ t answer
+judges-same {text} {t = t} {answer = answer} e j = subst (λ (l : Lent). Judges text l t answer) e j
 
 -- tables that are long enough are full
-pub long-enough : (t : Memory) → tooShort (lengths (five (t .names) (t .formulas) (t .rows) (t .left) (t .right))) ≡ false
-    → 3 * mostFormulas ≤ length (t .notes) → Full t
+long-enough : (t : Memory) → tooShort (lengths (fiveOf t)) ≡ false → 3 * mostFormulas ≤ length (t .notes) → Full t
 unfolding tooShort
 long-enough t e w =
     let fifth = or-false (names || formulas || rows || left) right e in
@@ -137,15 +171,32 @@ long-enough t e w =
     right : Bool
     right = ltb (length (t .right)) (least .right)
 
--- a table of zeros is as long as it is
-pub zeros-long : (table : List ℕ) (n : ℕ) → table ≡ replicate n 0 → table ≡ replicate (length table) 0
-zeros-long table n e = e ∙ ap (λ (k : ℕ). replicate k 0) (sym (ap length e ∙ length-replicate n 0))
+-- zeros through a table, by the length that it had
+zeros-long : (table : List ℕ) (n : ℕ) → table ≡ replicate n 0 → length table ≡ n
+zeros-long table n e = ap length e ∙ length-replicate n 0
 
--- five tables of zeros, by the lengths that they had
-pub all-zeros : (t : Contents) (lent : Lent) → t ≡ clear lent → Zeros t
-all-zeros t lent e =
-    λ i. five (zeros-long (t .names) (lent .names) (ap (λ (c : Contents). c .names) e) i)
-    (zeros-long (t .formulas) (lent .formulas) (ap (λ (c : Contents). c .formulas) e) i)
-    (zeros-long (t .rows) (lent .rows) (ap (λ (c : Contents). c .rows) e) i)
-    (zeros-long (t .left) (lent .left) (ap (λ (c : Contents). c .left) e) i)
-    (zeros-long (t .right) (lent .right) (ap (λ (c : Contents). c .right) e) i)
+-- cleared tables have the lengths that they had
+pub clear-lengths : (t : Contents) (lent : Lent) → t ≡ clear lent → lengths t ≡ lent
+clear-lengths t lent e =
+    λ i.
+    record {
+      names = zeros-long (t .names) (lent .names) (ap (λ (c : Contents). c .names) e) i;
+      formulas = zeros-long (t .formulas) (lent .formulas) (ap (λ (c : Contents). c .formulas) e) i;
+      rows = zeros-long (t .rows) (lent .rows) (ap (λ (c : Contents). c .rows) e) i;
+      left = zeros-long (t .left) (lent .left) (ap (λ (c : Contents). c .left) e) i;
+      right = zeros-long (t .right) (lent .right) (ap (λ (c : Contents). c .right) e) i;
+    }
+
+-- and hold nothing
+pub clear-zeros : (t : Contents) (lent : Lent) → t ≡ clear lent → Zeros t
+clear-zeros t lent e = e ∙ ap clear (sym (clear-lengths t lent e))
+
+-- clear tables of full length are fresh, beside notes that are new
+pub fresh-tables : (t : Memory) → tooShort (lengths (fiveOf t)) ≡ false → Zeros (fiveOf t) → t .notes ≡ replicate (3 * mostFormulas) 0 → Fresh t
+fresh-tables t enough zeros new =
+    let long = zeros-long (t .notes) (3 * mostFormulas) new in
+    record {
+      full = long-enough t enough (omega (arith, long));
+      zeros = zeros;
+      no-notes = new ∙ ap (λ (k : ℕ). replicate k 0) (sym long);
+    }

@@ -1,10 +1,8 @@
 -- `judge::clear_all` meets its contract: each table is cleared.
-use Rattle.judge.specs.Contract.{five, lengths, clear}
-use Rattle.judge.proofs.Whole.{all-zeros}
+use Rattle.run.specs.Lent.{five}
 use borrow.Author.Needs.{needs}
 use Rattle.judge.proofs.clear_all.Statement.{statement}
 use Rattle.judge.proofs.clear_all.Tie as tie
-use Rattle.tables.proofs.clear.Reads as clear-reads
 
 clear-requires : tie.Need-clear-requires
 clear-requires c κs = search needs
@@ -43,10 +41,7 @@ returns c =
     let third = fourth .before .before .before .before in
     let second = third .before .before .before .before in
     let first = second .before .before .before .before in
-    let args = first .before .before .before .before .before .before .before .args in
-    let before = lengths (five (args .names .now) (args .formulas .now) (args .rows .now) (args .left .now) (args .right .now)) in
-    all-zeros _ before
-    (λ i. five (first .clear .ensures i) (second .clear2 .ensures i) (third .clear3 .ensures i) (fourth .clear4 .ensures i) (fifth .clear5 .ensures i))
+    λ i. five (first .clear .ensures i) (second .clear2 .ensures i) (third .clear3 .ensures i) (fourth .clear4 .ensures i) (fifth .clear5 .ensures i)
 
 pub clear-all-spec : {M : Type 1} → statement M
 clear-all-spec =

@@ -1,10 +1,10 @@
 -- `judge::judge` meets its contract: by the lengths first, and then by the run.
 use native.Mathlib.Omega.{arith}
 use mathlib.Core.Path.{sym, ap, _∙_}
-use Rattle.format.specs.Tables.{tooShort}
-use Rattle.judge.specs.Contract.{five, lengths}
-use Rattle.judge.proofs.Whole.{judged-short, judged-long, judged-read, same-lengths, judges-cleared, judges-run}
 use borrow.Author.Needs.{needs}
+use Rattle.format.specs.Tables.{tooShort}
+use Rattle.run.specs.Lent.{five, lengths}
+use Rattle.judge.proofs.Whole.{judged-short, judges-cleared, judges-same, clear-lengths, clear-zeros}
 use Rattle.judge.proofs.judge.Statement.{statement}
 use Rattle.judge.proofs.judge.Tie as tie
 
@@ -35,11 +35,17 @@ returns c =
     let tested = cleared .before .before .before .before .before .before in
     let args = tested .before .before .before .before .before .before .before .args in
     let lent = lengths (five (args .names .now) (args .formulas .now) (args .rows .now) (args .left .now) (args .right .now)) in
-    let last = cleared .clear-all .last in
-    let exit = five (last .0) (last .1 .0) (last .1 .1 .0) (last .1 .1 .1 .0) (last .1 .1 .1 .1 .0) in
-    let same = same-lengths exit lent (search needs) (search needs) (search needs) (search needs) (search needs) in
-    judges-cleared (args .text .now) lent exit _ same (judged-short (args .text .now) lent (sym (tested .too-short .ensures) ∙ c .if1 .taken))
-    (λ e. omega (arith, e)) (cleared .clear-all .ensures)
+    let short = judged-short (args .text .now) lent (sym (tested .too-short .ensures) ∙ c .if1 .taken) in
+    judges-cleared (args .text .now) lent _ _ short (λ e. omega (arith, e)) (cleared .clear-all .ensures)
+
+run-or-clear-requires : tie.Need-run-or-clear-requires
+run-or-clear-requires c κs =
+    let cleared = c .before .before .before .before .before .before .before .before .before .before .before .before .before .before .before .before in
+    let tested = cleared .before .before .before .before .before .before in
+    let args = tested .before .before .before .before .before .before .before .args in
+    let lent = lengths (five (args .names .now) (args .formulas .now) (args .rows .now) (args .left .now) (args .right .now)) in
+    let same = clear-lengths _ lent (cleared .clear-all .ensures) in
+    (ap tooShort same ∙ sym (tested .too-short .ensures) ∙ c .before .before .before .before .before .if1 .left, clear-zeros _ lent (cleared .clear-all .ensures))
 
 same-length-6 : tie.Need-same-length-6
 same-length-6 c = search needs
@@ -58,57 +64,12 @@ same-length-10 c = search needs
 
 returns-2 : tie.Need-returns-2
 returns-2 c =
-    let cleared = c .before .before .before .before .before .before .before .before .before .before .before .before in
-    let tested = cleared .before .before .before .before .before .before in
-    let args = tested .before .before .before .before .before .before .before .args in
-    let lent = lengths (five (args .names .now) (args .formulas .now) (args .rows .now) (args .left .now) (args .right .now)) in
-    let last = cleared .clear-all .last in
-    let exit = five (last .0) (last .1 .0) (last .1 .1 .0) (last .1 .1 .1 .0) (last .1 .1 .1 .1 .0) in
-    let same = same-lengths exit lent (search needs) (search needs) (search needs) (search needs) (search needs) in
-    let enough = sym (tested .too-short .ensures) ∙ c .before .if1 .left in
-    judges-cleared (args .text .now) lent exit _ same (judged-long (args .text .now) lent enough (c .if2 .taken))
-    (λ e. omega (arith, e)) (cleared .clear-all .ensures)
-
-run-or-clear-requires : tie.Need-run-or-clear-requires
-run-or-clear-requires c κs =
-    let cleared = c .before .before .before .before .before .before .before .before .before .before .before .before .before .before .before .before .before in
-    let tested = cleared .before .before .before .before .before .before in
-    let args = tested .before .before .before .before .before .before .before .args in
-    let lent = lengths (five (args .names .now) (args .formulas .now) (args .rows .now) (args .left .now) (args .right .now)) in
-    let last = cleared .clear-all .last in
-    let exit = five (last .0) (last .1 .0) (last .1 .1 .0) (last .1 .1 .1 .0) (last .1 .1 .1 .1 .0) in
-    let same = same-lengths exit lent (search needs) (search needs) (search needs) (search needs) (search needs) in
-    let long = c .before .before .before .before .before in
-    (long .if2 .left, ap tooShort same ∙ sym (tested .too-short .ensures) ∙ long .before .if1 .left, cleared .clear-all .ensures)
-
-same-length-11 : tie.Need-same-length-11
-same-length-11 c = search needs
-
-same-length-12 : tie.Need-same-length-12
-same-length-12 c = search needs
-
-same-length-13 : tie.Need-same-length-13
-same-length-13 c = search needs
-
-same-length-14 : tie.Need-same-length-14
-same-length-14 c = search needs
-
-same-length-15 : tie.Need-same-length-15
-same-length-15 c = search needs
-
-returns-3 : tie.Need-returns-3
-returns-3 c =
     let ran = c .before .before .before .before .before .before .before .before .before .before in
-    let long = ran .before .before .before .before .before .before in
-    let cleared = long .before .before .before .before .before .before .before .before .before .before .before .before in
+    let cleared = ran .before .before .before .before .before .before .before .before .before .before .before .before .before .before .before .before .before in
     let tested = cleared .before .before .before .before .before .before in
     let args = tested .before .before .before .before .before .before .before .args in
     let lent = lengths (five (args .names .now) (args .formulas .now) (args .rows .now) (args .left .now) (args .right .now)) in
-    let last = ran .run-or-clear .last .1 in
-    let exit = five (last .0) (last .1 .0) (last .1 .1 .0) (last .1 .1 .1 .0) (last .1 .1 .1 .1 .0) in
-    let same = same-lengths exit lent (same-length-11 c) (same-length-12 c) (same-length-13 c) (same-length-14 c) (same-length-15 c) in
-    let enough = sym (tested .too-short .ensures) ∙ long .before .if1 .left in
-    judges-run (args .text .now) lent exit _ same (judged-read (args .text .now) lent enough (long .if2 .left)) (ran .run-or-clear .ensures)
+    judges-same (clear-lengths _ lent (cleared .clear-all .ensures)) (ran .run-or-clear .ensures)
 
 pub judge-spec : {M : Type 1} → statement M
 judge-spec =
@@ -122,16 +83,10 @@ judge-spec =
     same-length-4
     same-length-5
     returns
+    run-or-clear-requires
     same-length-6
     same-length-7
     same-length-8
     same-length-9
     same-length-10
-    returns-2
-    run-or-clear-requires
-    same-length-11
-    same-length-12
-    same-length-13
-    same-length-14
-    same-length-15
-    returns-3)
+    returns-2)

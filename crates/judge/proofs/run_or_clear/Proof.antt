@@ -1,8 +1,7 @@
 -- `judge::run_or_clear` meets its contract: the tables stay where the run accepts, and are clear where it refuses.
-use mathlib.Core.Logic.{inr}
 use mathlib.Core.Path.{refl}
-use Rattle.judge.proofs.Whole.{kept, refuses, long-enough, zeros-long}
 use borrow.Author.Needs.{needs}
+use Rattle.judge.proofs.Whole.{fresh-tables, judges-kept, judges-again-clear}
 use Rattle.judge.proofs.run_or_clear.Statement.{statement}
 use Rattle.judge.proofs.run_or_clear.Tie as tie
 
@@ -10,9 +9,7 @@ slice-aggregate-run : tie.Need-slice-aggregate-run
 slice-aggregate-run c = search needs
 
 run-requires : tie.Need-run-requires
-run-requires c κs =
-    let entry = c .before .before .before .before .before .before .before .before .before .before .before .before in
-    (entry .pre .0, long-enough _ (entry .pre .1) (search needs), entry .pre .2, zeros-long _ 3072 refl)
+run-requires c κs = search needs
 
 finish-requires : tie.Need-finish-requires
 finish-requires c κs = search needs
@@ -36,7 +33,9 @@ returns : tie.Need-returns
 returns c =
     let finished = c .before .before in
     let ran = finished .before .before .before .before .before .before .before .before .before .before .before .before in
-    kept (finished .finish .ensures _ (ran .run .ensures)) (c .if1 .taken)
+    let entry = ran .before .before .before .before .before .before .before .before .before .before .before .before .before in
+    let fresh = fresh-tables _ (entry .pre .0) (entry .pre .1) refl in
+    judges-kept (entry .pre .0) fresh (ran .run .ensures) (finished .finish .ensures) (c .if1 .taken)
 
 clear-all-requires : tie.Need-clear-all-requires
 clear-all-requires c κs = search needs
@@ -62,7 +61,9 @@ returns-2 c =
     let tested = cleared .before .before .before .before .before .before in
     let finished = tested .before .before in
     let ran = finished .before .before .before .before .before .before .before .before .before .before .before .before in
-    inr (refuses (finished .finish .ensures _ (ran .run .ensures)) (tested .if1 .left), cleared .clear-all .ensures)
+    let entry = ran .before .before .before .before .before .before .before .before .before .before .before .before .before in
+    let fresh = fresh-tables _ (entry .pre .0) (entry .pre .1) refl in
+    judges-again-clear (entry .pre .0) fresh (ran .run .ensures) (finished .finish .ensures) (tested .if1 .left) (cleared .clear-all .ensures)
 
 pub run-or-clear-spec : {M : Type 1} → statement M
 run-or-clear-spec =

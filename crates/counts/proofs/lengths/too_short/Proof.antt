@@ -1,26 +1,16 @@
--- `judge::too_short` meets its contract: the tests in the definition's order.
-use borrow.Author.Needs.{needs}
+-- `counts::lengths::too_short` meets its contract: the tests in the definition's order.
 use borrow.Author.Tests.{lt-ltb, le-ltb}
 use Rattle.format.specs.Tables.{tooShort}
-use Rattle.judge.proofs.too_short.Statement.{statement}
-use Rattle.judge.proofs.too_short.Tie as tie
-
-mul-if1 : tie.Need-mul-if1
-mul-if1 c = search needs
+use Rattle.counts.proofs.lengths.too_short.Statement.{statement}
+use Rattle.counts.proofs.lengths.too_short.Tie as tie
 
 returns : tie.Need-returns
 unfolding tooShort
 returns c = simp (lt-ltb _ _ (c .if1 .taken))
 
-mul-if2 : tie.Need-mul-if2
-mul-if2 c = search needs
-
 returns-2 : tie.Need-returns-2
 unfolding tooShort
 returns-2 c = simp (le-ltb _ _ (c .before .if1 .left), lt-ltb _ _ (c .if2 .taken))
-
-mul-if3 : tie.Need-mul-if3
-mul-if3 c = search needs
 
 returns-3 : tie.Need-returns-3
 unfolding tooShort
@@ -41,4 +31,4 @@ returns-5 c =
     simp (le-ltb _ _ (second .before .if1 .left), le-ltb _ _ (second .if2 .left), le-ltb _ _ (third .if3 .left), le-ltb _ _ (c .if4 .left))
 
 pub too-short-spec : {M : Type 1} → statement M
-too-short-spec = tie.close (tie.spec mul-if1 returns mul-if2 returns-2 mul-if3 returns-3 returns-4 returns-5)
+too-short-spec = tie.close (tie.spec returns returns-2 returns-3 returns-4 returns-5)
