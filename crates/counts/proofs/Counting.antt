@@ -11,7 +11,7 @@ use Rattle.format.specs.File.{Node, Row, Body, addNode, addRow}
 use Rattle.format.specs.Tables.{mostAtoms, mostFormulas, mostRows, mostEntries}
 use Rattle.format.proofs.Booleans.{or-false}
 use Rattle.format.proofs.GoodBodies.{joined-snoc}
-use Rattle.counts.specs.Counts.{countsOf, withAtom, withFormula, fullFor, withRow}
+use Rattle.counts.specs.Counts.{countsOf, countAtom, countFormula, fullFor, countRow}
 use Rattle.counts.specs.declared.Counts.{Counts}
 
 -- a difference against what is left to hold
@@ -29,20 +29,20 @@ module _ (c : Counts) where
   abbrev one-formula : Counts
   one-formula = record { atoms = c .atoms; formulas = c .formulas + 1; rows = c .rows; left = c .left; right = c .right }
 
-  pub atom-full : mostAtoms ≤ c .atoms → c ≡ withAtom c
-  unfolding withAtom
+  pub atom-full : mostAtoms ≤ c .atoms → c ≡ countAtom c
+  unfolding countAtom
   atom-full h = sym (ap (λ (b : Bool). cond b c one-atom) (le-leb mostAtoms (c .atoms) h))
 
-  pub atom-more : c .atoms < mostAtoms → one-atom ≡ withAtom c
-  unfolding withAtom
+  pub atom-more : c .atoms < mostAtoms → one-atom ≡ countAtom c
+  unfolding countAtom
   atom-more h = sym (ap (λ (b : Bool). cond b c one-atom) (lt-leb mostAtoms (c .atoms) h))
 
-  pub formula-full : mostFormulas ≤ c .formulas → c ≡ withFormula c
-  unfolding withFormula
+  pub formula-full : mostFormulas ≤ c .formulas → c ≡ countFormula c
+  unfolding countFormula
   formula-full h = sym (ap (λ (b : Bool). cond b c one-formula) (le-leb mostFormulas (c .formulas) h))
 
-  pub formula-more : c .formulas < mostFormulas → one-formula ≡ withFormula c
-  unfolding withFormula
+  pub formula-more : c .formulas < mostFormulas → one-formula ≡ countFormula c
+  unfolding countFormula
   formula-more h = sym (ap (λ (b : Bool). cond b c one-formula) (lt-leb mostFormulas (c .formulas) h))
 
   module _ (left right : ℕ) where
@@ -75,27 +75,27 @@ module _ (c : Counts) where
     abbrev more : Counts
     more = record { atoms = c .atoms; formulas = c .formulas; rows = c .rows + 1; left = c .left + left; right = c .right + right }
 
-    pub row-full : fullFor c left right ≡ true → c ≡ withRow c left right
-    unfolding withRow
+    pub row-full : fullFor c left right ≡ true → c ≡ countRow c left right
+    unfolding countRow
     row-full e = sym (ap (λ (b : Bool). cond b c more) e)
 
-    pub row-more : fullFor c left right ≡ false → more ≡ withRow c left right
-    unfolding withRow
+    pub row-more : fullFor c left right ≡ false → more ≡ countRow c left right
+    unfolding countRow
     row-more e = sym (ap (λ (b : Bool). cond b c more) e)
 
 -- the counts of a body with one item more
 pub counts-atom : (b : Body) → b .atoms < mostAtoms
-    → withAtom (countsOf b) ≡ countsOf (record { atoms = b .atoms + 1; nodes = b .nodes; rows = b .rows })
+    → countAtom (countsOf b) ≡ countsOf (record { atoms = b .atoms + 1; nodes = b .nodes; rows = b .rows })
 counts-atom b h = sym (atom-more (countsOf b) h)
 
-pub counts-node : (b : Body) (node : Node) → length (b .nodes) < mostFormulas → withFormula (countsOf b) ≡ countsOf (addNode b node)
+pub counts-node : (b : Body) (node : Node) → length (b .nodes) < mostFormulas → countFormula (countsOf b) ≡ countsOf (addNode b node)
 counts-node b node h =
     sym (formula-more (countsOf b) h)
     ∙ ap (λ (n : ℕ). record { atoms = b .atoms; formulas = n; rows = countsOf b .rows; left = countsOf b .left; right = countsOf b .right })
     (sym (length-append (b .nodes) (node ∷ [])))
 
 pub counts-row : (b : Body) (r : Row) → fullFor (countsOf b) (length (r .left)) (length (r .right)) ≡ false
-    → withRow (countsOf b) (length (r .left)) (length (r .right)) ≡ countsOf (addRow b r)
+    → countRow (countsOf b) (length (r .left)) (length (r .right)) ≡ countsOf (addRow b r)
 counts-row b r e =
     let rows : length (b .rows) + 1 ≡ length (b .rows ++ r ∷ []) = sym (length-append (b .rows) (r ∷ [])) in
     let left = sym (joined-snoc (λ (q : Row). q .left) (b .rows) r) in

@@ -21,13 +21,13 @@ abbrev pub noCounts : Counts
 noCounts = record { atoms = 0; formulas = 0; rows = 0; left = 0; right = 0 }
 
 -- one atom more; the same counts where there is no room for it
-unfoldable pub withAtom : Counts → Counts
-withAtom c =
+unfoldable pub countAtom : Counts → Counts
+countAtom c =
     cond (leb mostAtoms (c .atoms)) c (record { atoms = c .atoms + 1; formulas = c .formulas; rows = c .rows; left = c .left; right = c .right })
 
 -- one formula more, in the same way
-unfoldable pub withFormula : Counts → Counts
-withFormula c =
+unfoldable pub countFormula : Counts → Counts
+countFormula c =
     cond (leb mostFormulas (c .formulas)) c (record { atoms = c .atoms; formulas = c .formulas + 1; rows = c .rows; left = c .left; right = c .right })
 
 -- there is no room for a row with so many numbers on its sides
@@ -35,7 +35,7 @@ unfoldable pub fullFor : Counts → ℕ → ℕ → Bool
 fullFor c left right = leb mostRows (c .rows) || ltb mostEntries (c .left + left) || ltb mostEntries (c .right + right)
 
 -- one row more, in the same way
-unfoldable pub withRow : Counts → ℕ → ℕ → Counts
-withRow c left right =
+unfoldable pub countRow : Counts → ℕ → ℕ → Counts
+countRow c left right =
     cond (fullFor c left right) c (
     record { atoms = c .atoms; formulas = c .formulas; rows = c .rows + 1; left = c .left + left; right = c .right + right })

@@ -7,7 +7,7 @@ ghost use mathlib.Core.Path.{_≡_};
 ghost use Prim.Native.Nat.{_+_};
 ghost use lib.Dec.{ltb};
 ghost use Rattle.format.specs.Tables.{mostEntries};
-ghost use Rattle.counts.specs.Counts.{noCounts, withAtom, withFormula, fullFor, withRow};
+ghost use Rattle.counts.specs.Counts.{noCounts, countAtom, countFormula, fullFor, countRow};
 use crate::limits::MOST_ATOMS;
 use crate::limits::MOST_ENTRIES;
 use crate::limits::MOST_FORMULAS;
@@ -46,7 +46,7 @@ impl Counts {
     }
 
     pub fn with_atom(self) -> Counts
-        ensures { λ r. ⌜ r ≡ withAtom self ⌝ }
+        ensures { λ r. ⌜ r ≡ countAtom self ⌝ }
     {
         if self.atoms >= MOST_ATOMS {
             return self;
@@ -57,7 +57,7 @@ impl Counts {
     }
 
     pub fn with_formula(self) -> Counts
-        ensures { λ r. ⌜ r ≡ withFormula self ⌝ }
+        ensures { λ r. ⌜ r ≡ countFormula self ⌝ }
     {
         if self.formulas >= MOST_FORMULAS {
             return self;
@@ -81,7 +81,7 @@ impl Counts {
     }
 
     pub fn with_row(self, left: usize, right: usize) -> Counts
-        ensures { λ r. ⌜ r ≡ withRow self left right ⌝ }
+        ensures { λ r. ⌜ r ≡ countRow self left right ⌝ }
     {
         if self.is_full(left, right) {
             return self;

@@ -13,8 +13,8 @@ use Rattle.keywords.specs.declared.Kind.{Kind}
 use Rattle.keywords.specs.declared.Kind.the-variants.{Atom, Formula, Row, Claim, Unknown}
 
 -- the kind of line that a first field names
-unfoldable pub kindOf : Bytes → Kind
-kindOf field = cond (is "A" field) Atom (cond (is "F" field) Formula (cond (is "N" field) Row (cond (is "C" field) Claim Unknown)))
+unfoldable pub kindNamed : Bytes → Kind
+kindNamed field = cond (is "A" field) Atom (cond (is "F" field) Formula (cond (is "N" field) Row (cond (is "C" field) Claim Unknown)))
 
 abbrev pub isKind : Bytes → Bool
 isKind field = is "A" field || is "F" field || is "N" field || is "C" field
@@ -28,7 +28,7 @@ kindRefusal Claim = none
 kindRefusal Unknown = some badLine
 
 pub record KindRead (field : Bytes) (r : Kind) : Type 0 where
-  pub answer : r ≡ kindOf field
+  pub answer : r ≡ kindNamed field
   pub refusal : kindRefusal r ≡ badUnless (isKind field)
 
 -- the number of a word that is none of an F line's

@@ -13,7 +13,7 @@ use Rattle.format.specs.File.{Node}
 use Rattle.format.specs.Tables.{nodeRecord, mostFormulas}
 use Rattle.format.specs.Tests.{_when_, first}
 use Rattle.format.proofs.Booleans.{list-same}
-use Rattle.tables.specs.Records.{nodeNumbers}
+use Rattle.tables.specs.Records.{recordNumbers}
 use Rattle.tables.specs.Holding.{HoldsNodes}
 use Rattle.tables.specs.declared.records.NodeRecord.{NodeRecord}
 use Rattle.known.specs.Index.{Indexed, NodeFound}
@@ -28,18 +28,18 @@ any-at test (x ∷ xs) (suc i) d h e = ap (λ (b : Bool). test x || b) (any-at t
 
 -- the formula of a record is held
 abbrev again : List Node → NodeRecord → Bool
-again nodes key = any (λ m. sameList (nodeRecord m) (nodeNumbers key)) nodes
+again nodes key = any (λ m. sameList (nodeRecord m) (recordNumbers key)) nodes
 
 abbrev number : Bool → Bool → Option ℕ
 number over same = first ((5 when over) ∷ (8 when same) ∷ [])
 
 module _ {formulas notes : List ℕ} (nodes : List Node) (holds : HoldsNodes nodes formulas) (index : Indexed nodes notes) where
-  found-again : (key : NodeRecord) (i : ℕ) → NodeFound formulas notes (nodeNumbers key) (some i) → again nodes key ≡ true
+  found-again : (key : NodeRecord) (i : ℕ) → NodeFound formulas notes (recordNumbers key) (some i) → again nodes key ≡ true
   found-again key i found =
       let inside = found .within nodes holds index i refl in
-      let same : nodeRecord (getD nodes i Node.bot) ≡ nodeNumbers key = sym (record-there holds i inside) ∙ found .there i refl in
-      any-at (λ m. sameList (nodeRecord m) (nodeNumbers key)) nodes i Node.bot inside
-      (ap (λ (l : List ℕ). sameList l (nodeNumbers key)) same ∙ list-same (nodeNumbers key))
+      let same : nodeRecord (getD nodes i Node.bot) ≡ recordNumbers key = sym (record-there holds i inside) ∙ found .there i refl in
+      any-at (λ m. sameList (nodeRecord m) (recordNumbers key)) nodes i Node.bot inside
+      (ap (λ (l : List ℕ). sameList l (recordNumbers key)) same ∙ list-same (recordNumbers key))
 
   refusal-is : {count : ℕ} {key : NodeRecord} {formulas′ notes′ : List ℕ} {r : Entry} → Enters formulas notes count key formulas′ notes′ r
       → entryRefusal r ≡ number (leb mostFormulas count) (again nodes key)

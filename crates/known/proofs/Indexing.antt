@@ -13,7 +13,7 @@ use lib.Seq.{getD-at, getD-set-same, getD-set-other}
 use Rattle.format.specs.Text.{any, sameList}
 use Rattle.format.specs.File.{Node}
 use Rattle.format.specs.Tables.{nodeRecord}
-use Rattle.tables.specs.Records.{nodeAt, recordFrom, nodeNumbers}
+use Rattle.tables.specs.Records.{nodeAt, recordFrom, recordNumbers}
 use Rattle.tables.specs.Holding.{HoldsNodes}
 use Rattle.known.specs.Index.{slotNotes, formulaNotes, slotOf, slotAt, Last, Indexed, entered, NodeFound}
 use Rattle.format.proofs.Equal.{same-false}
@@ -28,10 +28,10 @@ module _ {X : Type 0} (test : X → Bool) where
 
 -- the record of a formula, as it is read
 pub record-there : {nodes : List Node} {formulas : List ℕ} → HoldsNodes nodes formulas → (i : ℕ) → i < length nodes
-    → nodeNumbers (recordFrom (nodeAt formulas i)) ≡ nodeRecord (getD nodes i Node.bot)
-record-there {nodes} held i h = ap (λ (l : List ℕ). nodeNumbers (recordFrom l)) (node-held held i Node.bot h) ∙ same (getD nodes i Node.bot)
+    → recordNumbers (recordFrom (nodeAt formulas i)) ≡ nodeRecord (getD nodes i Node.bot)
+record-there {nodes} held i h = ap (λ (l : List ℕ). recordNumbers (recordFrom l)) (node-held held i Node.bot h) ∙ same (getD nodes i Node.bot)
   where
-    same : (m : Node) → nodeNumbers (recordFrom (nodeRecord m)) ≡ nodeRecord m
+    same : (m : Node) → recordNumbers (recordFrom (nodeRecord m)) ≡ nodeRecord m
     same Node.bot = refl
     same (Node.atom k) = refl
     same (Node.not k) = refl
@@ -74,11 +74,11 @@ module _ (nodes : List Node) (numbers : List ℕ) where
 
 -- the two answers of the walk
 module _ (formulas notes numbers : List ℕ) where
-  pub found-at : (at : ℕ) → nodeNumbers (recordFrom (nodeAt formulas at)) ≡ numbers
+  pub found-at : (at : ℕ) → recordNumbers (recordFrom (nodeAt formulas at)) ≡ numbers
       → ((nodes : List Node) → HoldsNodes nodes formulas → Indexed nodes notes → at < length nodes) → NodeFound formulas notes numbers (some at)
   found-at at same inside =
       record {
-        there = λ i e. let k : at ≡ i = cc in ap (λ (n : ℕ). nodeNumbers (recordFrom (nodeAt formulas n))) (sym k) ∙ same;
+        there = λ i e. let k : at ≡ i = cc in ap (λ (n : ℕ). recordNumbers (recordFrom (nodeAt formulas n))) (sym k) ∙ same;
         within = λ nodes held index i e. let k : at ≡ i = cc in omega (arith, inside nodes held index);
         missing = λ nodes held index e. let z : _≡_ {A = ℕ} 0 1 = cc in absurd (omega arith);
       }

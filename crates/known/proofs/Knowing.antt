@@ -32,7 +32,7 @@ use Rattle.format.proofs.GoodBodies.{good-held}
 use Rattle.format.proofs.Formulas.{formulas-snoc, length-formulas, formulas-prefix, known-earlier}
 use Rattle.atomset.specs.AtomSet.{has, Member}
 use Rattle.tables.specs.declared.records.NodeRecord.{NodeRecord}
-use Rattle.tables.specs.Records.{recordFrom, nodeNumbers}
+use Rattle.tables.specs.Records.{recordFrom, recordNumbers}
 use Rattle.known.specs.Index.{entered, Indexed}
 use Rattle.known.specs.Known.{AtomNotes, Known, occursBy}
 use Rattle.known.specs.Entering.{Appended}
@@ -99,14 +99,14 @@ module _ (b : Body) (good : GoodBody b) (notes : List ℕ) (known : AtomNotes b 
           own
 
 -- the record of a node, whatever numbers say it
-pub key-of : (key : NodeRecord) (m : Node) → nodeNumbers key ≡ nodeRecord m → key ≡ recordFrom (nodeRecord m)
+pub key-of : (key : NodeRecord) (m : Node) → recordNumbers key ≡ nodeRecord m → key ≡ recordFrom (nodeRecord m)
 key-of key m e = ap recordFrom e
 
 module _ {b : Body} {formulas notes formulas′ notes′ : List ℕ} {count : ℕ} {key : NodeRecord} (good : GoodBody b) (known : Known b notes) (m : Node)
-    (is-record : nodeNumbers key ≡ nodeRecord m) (more : Appended formulas notes count key formulas′ notes′) where
+    (is-record : recordNumbers key ≡ nodeRecord m) (more : Appended formulas notes count key formulas′ notes′) where
   pub notes-length : length notes′ ≡ length notes
   notes-length =
-      ap length (more .noted) ∙ length-entered (set notes count (more .atoms)) count (nodeNumbers key) ∙ length-set notes count (more .atoms)
+      ap length (more .noted) ∙ length-entered (set notes count (more .atoms)) count (recordNumbers key) ∙ length-set notes count (more .atoms)
 
   -- what is known, after the formula is appended
   pub known-more : refersAhead b m ≡ false → count ≡ length (b .nodes) → count < mostFormulas → 3 * mostFormulas ≤ length notes → Known (addNode b m) notes′

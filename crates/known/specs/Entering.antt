@@ -10,7 +10,7 @@ use Rattle.format.specs.File.{Node}
 use Rattle.format.specs.Tables.{nodeRecord, nodeWidth, mostFormulas}
 use Rattle.format.specs.Tests.{_when_, first}
 use Rattle.atomset.specs.AtomSet.{has}
-use Rattle.tables.specs.Records.{written, nodeNumbers}
+use Rattle.tables.specs.Records.{written, recordNumbers}
 use Rattle.tables.specs.Holding.{HoldsNodes}
 use Rattle.known.specs.Index.{entered, Indexed, NodeFound}
 use Rattle.known.specs.Known.{occursBy}
@@ -27,17 +27,17 @@ entryRefusal Entry.Full = some 5
 pub record Appended (formulas notes : List ℕ) (count : ℕ) (key : NodeRecord) (formulas′ notes′ : List ℕ) : Type 0 where
   pub atoms : ℕ
   pub atoms-are : (p : ℕ) → has atoms p ≡ occursBy notes key p
-  pub put : formulas′ ≡ written formulas (nodeWidth * count) (nodeNumbers key)
-  pub noted : notes′ ≡ entered (set notes count atoms) count (nodeNumbers key)
+  pub put : formulas′ ≡ written formulas (nodeWidth * count) (recordNumbers key)
+  pub noted : notes′ ≡ entered (set notes count atoms) count (recordNumbers key)
 
 -- A formula that is held already, or for which there is no room, changes nothing; a new one is appended.
 pub data Enters (formulas notes : List ℕ) (count : ℕ) (key : NodeRecord) (formulas′ notes′ : List ℕ) : Entry → Type 0 where
   full : mostFormulas ≤ count → formulas′ ≡ formulas → notes′ ≡ notes → Enters formulas notes count key formulas′ notes′ Entry.Full
   held :
-      (i : ℕ) → count < mostFormulas → NodeFound formulas notes (nodeNumbers key) (some i) → formulas′ ≡ formulas → notes′ ≡ notes
+      (i : ℕ) → count < mostFormulas → NodeFound formulas notes (recordNumbers key) (some i) → formulas′ ≡ formulas → notes′ ≡ notes
       → Enters formulas notes count key formulas′ notes′ (Entry.Held i)
   new :
-      count < mostFormulas → NodeFound formulas notes (nodeNumbers key) none → Appended formulas notes count key formulas′ notes′
+      count < mostFormulas → NodeFound formulas notes (recordNumbers key) none → Appended formulas notes count key formulas′ notes′
       → Enters formulas notes count key formulas′ notes′ (Entry.New count)
 
 -- The tables after it; and where the table holds formulas with their index, the number that the answer stands for: 5 where there
@@ -46,4 +46,4 @@ pub record FormulaEntered (formulas notes : List ℕ) (count : ℕ) (key : NodeR
   pub entry : Enters formulas notes count key formulas′ notes′ r
   pub refusal :
       (nodes : List Node) → HoldsNodes nodes formulas → Indexed nodes notes
-      → entryRefusal r ≡ first ((5 when leb mostFormulas count) ∷ (8 when any (λ m. sameList (nodeRecord m) (nodeNumbers key)) nodes) ∷ [])
+      → entryRefusal r ≡ first ((5 when leb mostFormulas count) ∷ (8 when any (λ m. sameList (nodeRecord m) (recordNumbers key)) nodes) ∷ [])

@@ -9,7 +9,7 @@ use lib.ListN.{length, getD, set}
 use Rattle.format.specs.Text.{any, sameList}
 use Rattle.format.specs.File.{Node}
 use Rattle.format.specs.Tables.{nodeRecord}
-use Rattle.tables.specs.Records.{nodeAt, recordFrom, nodeNumbers}
+use Rattle.tables.specs.Records.{nodeAt, recordFrom, recordNumbers}
 use Rattle.tables.specs.Holding.{HoldsNodes}
 use Rattle.known.specs.declared.index.Located.{Located}
 
@@ -53,7 +53,7 @@ placeIn Located.Nowhere = none
 -- What is found by the index, in any tables: a formula that has the record. Where the table holds formulas with their index, it
 -- is one of them, and nothing is found only where none has the record; elsewhere it is free whether one is found.
 pub record NodeFound (formulas notes numbers : List ℕ) (place : Option ℕ) : Type 0 where
-  pub there : (i : ℕ) → place ≡ some i → nodeNumbers (recordFrom (nodeAt formulas i)) ≡ numbers
+  pub there : (i : ℕ) → place ≡ some i → recordNumbers (recordFrom (nodeAt formulas i)) ≡ numbers
   pub within : (nodes : List Node) → HoldsNodes nodes formulas → Indexed nodes notes → (i : ℕ) → place ≡ some i → i < length nodes
   pub missing :
       (nodes : List Node) → HoldsNodes nodes formulas → Indexed nodes notes → place ≡ none

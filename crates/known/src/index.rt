@@ -5,7 +5,7 @@ ghost use mathlib.Core.Path.{_≡_};
 ghost use Prim.Native.Nat.{_+_, _≤_, _<_};
 ghost use lib.ListN.{getD, set};
 ghost use Rattle.format.specs.Text.{sameList};
-ghost use Rattle.tables.specs.Records.{nodeAt, recordFrom, nodeNumbers};
+ghost use Rattle.tables.specs.Records.{nodeAt, recordFrom, recordNumbers};
 ghost use Rattle.known.specs.Index.{formulaNotes, slotOf, entered, placeIn, NodeFound};
 use tables::records::NodeRecord;
 use tables::records::node;
@@ -24,7 +24,7 @@ const FORMULAS: usize = 2048;
 
 // The slot of a record: its numbers, mixed.
 fn slot(key: NodeRecord) -> usize
-    ensures { λ r. ⌜ r ≡ slotOf (nodeNumbers key) ⌝ }
+    ensures { λ r. ⌜ r ≡ slotOf (recordNumbers key) ⌝ }
 {
     (wide(key.word) + 31 * wide(key.first) + 173 * wide(key.second)) % 1024
 }
@@ -50,7 +50,7 @@ pub(crate) fn put_note(notes: &mut [u64], at: usize, note: u64)
 
 // Whether formula i has this key.
 fn has_record(formulas: &[u16], i: usize, key: NodeRecord) -> bool
-    ensures { λ r. ⌜ r ≡ sameList (nodeNumbers (recordFrom (nodeAt (now (formulas .entry)) i))) (nodeNumbers key) ⌝ }
+    ensures { λ r. ⌜ r ≡ sameList (recordNumbers (recordFrom (nodeAt (now (formulas .entry)) i))) (recordNumbers key) ⌝ }
 {
     let found = node(formulas, i);
     if found.word != key.word {
@@ -78,7 +78,7 @@ fn past_last(notes: &[u64], i: u64) -> u64
 
 // The formula that has this record, by the index.
 pub(crate) fn find_node(formulas: &[u16], notes: &[u64], key: NodeRecord) -> Located
-    ensures { λ r. ⌜ NodeFound (now (formulas .entry)) (now (notes .entry)) (nodeNumbers key) (placeIn r) ⌝ }
+    ensures { λ r. ⌜ NodeFound (now (formulas .entry)) (now (notes .entry)) (recordNumbers key) (placeIn r) ⌝ }
 {
     let mut after = note(notes, SLOTS + slot(key));
     while 0 < after {
@@ -94,7 +94,7 @@ pub(crate) fn find_node(formulas: &[u16], notes: &[u64], key: NodeRecord) -> Loc
 
 // Enters formula i into the index. Outside of it nothing changes.
 pub(crate) fn enter_node(notes: &mut [u64], i: usize, key: NodeRecord)
-    ensures { λ _. ⌜ now (notes .exit) ≡ entered (now (notes .entry)) i (nodeNumbers key) ⌝ }
+    ensures { λ _. ⌜ now (notes .exit) ≡ entered (now (notes .entry)) i (recordNumbers key) ⌝ }
 {
     if 1024 <= i {
         return;

@@ -25,7 +25,7 @@ use Rattle.parts.specs.Parts.{startOf, between, FieldAt, Fielded}
 use Rattle.text.specs.Numbers.{numberAs}
 use Rattle.text.specs.declared.numbers.Number.{Number}
 use Rattle.parts.specs.declared.Fields.{Fields}
-use Rattle.counts.specs.Counts as counting
+use Rattle.counts.specs.Counts.{countAtom}
 use Rattle.tables.specs.Holding.{Begins}
 use Rattle.tables.specs.Names.{firstRecords, spelledBy, nameRefusal, NameFound, StandsIn}
 use Rattle.tables.specs.Records.{written}
@@ -258,7 +258,7 @@ module _ {text line : Bytes} {start : ℕ} (at : NameAt text start line) (f : Fi
           })
 
   pub atom-stored : (number : ℕ)
-      → Stored text (withAtom f (nameStart p line) (nameIn line)) (passedBy s (counting.withAtom (s .counts)) 0 number .state)
+      → Stored text (withAtom f (nameStart p line) (nameIn line)) (passedBy s (countAtom (s .counts)) 0 number .state)
       (withNames t (namesWith (t .names) s start line))
   atom-stored number =
       record {
@@ -271,7 +271,7 @@ module _ {text line : Bytes} {start : ℕ} (at : NameAt text start line) (f : Fi
               left = stored .full .left;
               right = stored .full .right;
             };
-        counts = ap counting.withAtom (stored .counts) ∙ counts-atom (f .body) (omega (arith, atoms-held));
+        counts = ap countAtom (stored .counts) ∙ counts-atom (f .body) (omega (arith, atoms-held));
         stage = refl;
         claim = stored .claim;
         names-in = stand;
@@ -310,7 +310,7 @@ module _ (text : Bytes) (start : ℕ) (line : Bytes) (number : ℕ) (s : State) 
       line-refused k (withNames t names) given (λ f p done good stored.
       step-atom f p line n (nameIn line) read ∙ number-given k _ p _ (tests-of t f done good stored) h)
 
-  atom-passed : NameAt text start line → k ≡ 0 → r ≡ passedBy s (counting.withAtom (s .counts)) 0 number
+  atom-passed : NameAt text start line → k ≡ 0 → r ≡ passedBy s (countAtom (s .counts)) 0 number
       → AtomLined text start line number s r names (namesWith names s start line)
   atom-passed at zero-k given t =
       record {
@@ -336,7 +336,7 @@ module _ (text : Bytes) (start : ℕ) (line : Bytes) (number : ℕ) (s : State) 
       }
 
   -- the same, by the record as it is put
-  pub atom-put : NameAt text start line → k ≡ 0 → (counts : Counts) → counts ≡ counting.withAtom (s .counts) → r ≡ passedBy s counts 0 number
+  pub atom-put : NameAt text start line → k ≡ 0 → (counts : Counts) → counts ≡ countAtom (s .counts) → r ≡ passedBy s counts 0 number
       → (a l : ℕ) → a ≡ startIn start line % 65536 → l ≡ length (nameIn line) % 65536
       → (after : List ℕ) → after ≡ written names (nameWidth * s .counts .atoms) (a ∷ l ∷ []) → AtomLined text start line number s r names after
   atom-put at zero-k counts more given a l starts long after put =

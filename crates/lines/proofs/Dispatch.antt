@@ -11,7 +11,7 @@ use Rattle.format.specs.Line.{lineOf, ofKind}
 use Rattle.format.proofs.Booleans.{same-list}
 use Rattle.parts.specs.Parts.{between, Fielded, FieldPart}
 use Rattle.parts.specs.Refusals.{badLine}
-use Rattle.keywords.specs.Words.{kindOf, KindRead}
+use Rattle.keywords.specs.Words.{kindNamed, KindRead}
 use Rattle.keywords.specs.declared.Kind.{Kind}
 use Rattle.keywords.specs.declared.Kind.the-variants.{Atom, Formula, Row, Claim, Unknown}
 use Rattle.parts.specs.declared.Fields.{Fields}
@@ -30,8 +30,8 @@ Named Row field = field ≡ bytes "N"
 Named Claim field = field ≡ bytes "C"
 Named Unknown field = (is "A" field ≡ false) × (is "F" field ≡ false) × (is "N" field ≡ false) × (is "C" field ≡ false)
 
-named : (field : Bytes) → Named (kindOf field) field
-unfolding kindOf
+named : (field : Bytes) → Named (kindNamed field) field
+unfolding kindNamed
 named field = cases (is "A" field) (is "F" field) (is "N" field) (is "C" field) refl refl refl refl
   where
     cases : (a b c d : Bool) → is "A" field ≡ a → is "F" field ≡ b → is "N" field ≡ c → is "C" field ≡ d

@@ -24,8 +24,8 @@ use Rattle.text.specs.Numbers.{numberAs, NumberRead}
 use Rattle.keywords.specs.Words.{formulaWord}
 use Rattle.text.specs.declared.numbers.Number.{Number}
 use Rattle.parts.specs.declared.Fields.{Fields}
-use Rattle.tables.specs.Records.{written, nodeNumbers}
-use Rattle.counts.specs.Counts.{countsOf, withFormula}
+use Rattle.tables.specs.Records.{written, recordNumbers}
+use Rattle.counts.specs.Counts.{countsOf, countFormula}
 use Rattle.known.specs.Entering.{entryRefusal, Appended, Enters, full, held, new, FormulaEntered}
 use Rattle.counts.specs.declared.Counts.{Counts}
 use Rattle.known.specs.declared.Entry.{Entry}
@@ -238,7 +238,7 @@ ahead-of b (Node.or i j) = ap (λ (t : Bool). leb (length (b .nodes)) i || t) (s
 ahead-of b (Node.imp i j) = ap (λ (t : Bool). leb (length (b .nodes)) i || t) (sym (or-false (leb (length (b .nodes)) j)))
 
 -- a formula whose operands are earlier fits a record of 16-bit numbers
-record-fits : (b : Body) → Held b → (m : Node) → refersAhead b m ≡ false → nodeNumbers (narrowed (writtenAs (some m))) ≡ nodeRecord m
+record-fits : (b : Body) → Held b → (m : Node) → refersAhead b m ≡ false → recordNumbers (narrowed (writtenAs (some m))) ≡ nodeRecord m
 record-fits b limits m e = cases m e
   where
     same : (i : ℕ) → i < 65536 → i % 65536 ≡ i
@@ -251,7 +251,7 @@ record-fits b limits m e = cases m e
     both w i j e =
         ap₂ (λ (x y : ℕ). w ∷ x ∷ y ∷ []) (earlier (i ∷ j ∷ []) e i (List·Memᴰ·head refl)) (earlier (i ∷ j ∷ []) e j (List·Memᴰ·tail (List·Memᴰ·head refl)))
 
-    cases : (n : Node) → refersAhead b n ≡ false → nodeNumbers (narrowed (writtenAs (some n))) ≡ nodeRecord n
+    cases : (n : Node) → refersAhead b n ≡ false → recordNumbers (narrowed (writtenAs (some n))) ≡ nodeRecord n
     cases Node.bot e = refl
     cases (Node.atom k) e = ap (λ (x : ℕ). 1 ∷ x ∷ absent ∷ []) (same k (omega (arith, leb-false (b .atoms) k e, limits .few-atoms)))
     cases (Node.not i) e = ap (λ (x : ℕ). 2 ∷ x ∷ absent ∷ []) (earlier (i ∷ []) e i (List·Memᴰ·head refl))
@@ -388,10 +388,10 @@ module _ {formulas notes formulas′ notes′ : List ℕ} {count : ℕ} {key : N
   entered-new (new few found more) i e = more
 
   formulas-length : Appended formulas notes count key formulas′ notes′ → length formulas′ ≡ length formulas
-  formulas-length more = ap length (more .put) ∙ written-length formulas (nodeWidth * count) (nodeNumbers key)
+  formulas-length more = ap length (more .put) ∙ written-length formulas (nodeWidth * count) (recordNumbers key)
 
   notes-length : Appended formulas notes count key formulas′ notes′ → length notes′ ≡ length notes
-  notes-length more = ap length (more .noted) ∙ length-entered (set notes count (more .atoms)) count (nodeNumbers key) ∙ length-set notes count (more .atoms)
+  notes-length more = ap length (more .noted) ∙ length-entered (set notes count (more .atoms)) count (recordNumbers key) ∙ length-set notes count (more .atoms)
 
 -- ---- the line, by a beginning that the tables hold
 
@@ -434,8 +434,8 @@ module _ (line : Bytes) (number : ℕ) (s : State) (formulas notes : List ℕ) (
       late : (ahead ≡ false) × (over ≡ false) × (first (formulaTests f n m) ≡ cond again (some 8) none)
       late = numbered-late out over ahead again k tests-here z
 
-      is-record : nodeNumbers key ≡ nodeRecord m
-      is-record = ap nodeNumbers (is-key ∙ ap narrowed (read .written-as)) ∙ record-fits (f .body) (good-held (good .body)) m (late .0)
+      is-record : recordNumbers key ≡ nodeRecord m
+      is-record = ap recordNumbers (is-key ∙ ap narrowed (read .written-as)) ∙ record-fits (f .body) (good-held (good .body)) m (late .0)
 
       -- the number of the line is the one that the answer stands for
       entry-tells : {formulas′ notes′ : List ℕ} {entry : Entry} → FormulaEntered formulas notes (s .counts .formulas) key formulas′ notes′ entry
@@ -464,7 +464,7 @@ module _ (line : Bytes) (number : ℕ) (s : State) (formulas notes : List ℕ) (
             fits : nodeWidth * length nodes + length (nodeRecord m) ≤ length formulas
             fits = omega (arith, ap length (sym is-record), room, stored .full .formulas)
 
-        after : Stored text (withNode f m) (passedBy s (withFormula (s .counts)) 1 number .state) (withFormulas t formulas′ notes′)
+        after : Stored text (withNode f m) (passedBy s (countFormula (s .counts)) 1 number .state) (withFormulas t formulas′ notes′)
         after =
             let whole = stored .full in
             record {
@@ -477,7 +477,7 @@ module _ (line : Bytes) (number : ℕ) (s : State) (formulas notes : List ℕ) (
                     left = whole .left;
                     right = whole .right;
                   };
-              counts = ap withFormula (stored .counts) ∙ counts-node (f .body) m room;
+              counts = ap countFormula (stored .counts) ∙ counts-node (f .body) m room;
               stage = refl;
               claim = stored .claim;
               names-in = stored .names-in;
@@ -514,13 +514,13 @@ module _ (line : Bytes) (number : ℕ) (s : State) (formulas notes : List ℕ) (
         let few = leb-false mostFormulas (s .counts .formulas) (numbered-late out _ ahead-here false k (numbers .tests) z .1) in
         absurd (omega (arith, few, entered-full (entered .entry) is-full))
 
-    pub formula-new : {r : Stepped} {counts : Counts} (i : ℕ) → entry ≡ Entry.New i → counts ≡ withFormula (s .counts) → r ≡ passedBy s counts 1 number
+    pub formula-new : {r : Stepped} {counts : Counts} (i : ℕ) → entry ≡ Entry.New i → counts ≡ countFormula (s .counts) → r ≡ passedBy s counts 1 number
         → FormulaLined line number s r formulas notes formulas′ notes′
     formula-new {r} i is-new more-counts e text start t =
         let more = entered-new (entered .entry) i is-new in
         let zero-number : r .number ≡ 0 = ap (λ (x : Stepped). x .number) e in
         let by-counts = ap (λ (x : Counts). passedBy s x 1 number .state) more-counts in
-        let state-is : passedBy s (withFormula (s .counts)) 1 number .state ≡ r .state = sym (ap (λ (x : Stepped). x .state) e ∙ by-counts) in
+        let state-is : passedBy s (countFormula (s .counts)) 1 number .state ≡ r .state = sym (ap (λ (x : Stepped). x .state) e ∙ by-counts) in
         record {
           steps =
               λ f p done good stored size at-start at-line.

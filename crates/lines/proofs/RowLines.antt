@@ -29,7 +29,7 @@ use Rattle.parts.specs.declared.Fields.{Fields}
 use Rattle.parts.proofs.PartLaws.{field-found}
 use Rattle.keywords.specs.Words.{noRule}
 use Rattle.text.specs.declared.lists.Listed.{Listed}
-use Rattle.counts.specs.Counts.{countsOf, fullFor, withRow as countRow}
+use Rattle.counts.specs.Counts.{countsOf, fullFor, countRow}
 use Rattle.tables.specs.Records.{written, rowNumbers}
 use Rattle.counts.specs.declared.Counts.{Counts}
 use Rattle.counts.proofs.Counting.{counts-row}

@@ -37,12 +37,12 @@ aheadIn node c =
     cond (eqb (node .word) 2) (leb (c .formulas) (node .first)) (leb (c .formulas) (node .first) || leb (c .formulas) (node .second))))
 
 -- the numbers 4, 5 and 7, by the formula as it was read and the state
-abbrev pub formulaOf : State → ℕ → Written → List Test
-formulaOf s n node =
+abbrev pub formulaTestsBy : State → ℕ → Written → List Test
+formulaTestsBy s n node =
     (4 when notNext (s .stage) 1 (s .counts .formulas) n) ∷ (5 when leb mostFormulas (s .counts .formulas)) ∷ (7 when aheadIn node (s .counts)) ∷ []
 
 pub record FormulaNumbered (s : State) (n : ℕ) (node : Written) (k : ℕ) : Type 0 where
-  pub tests : numbered k ≡ first (formulaOf s n node)
+  pub tests : numbered k ≡ first (formulaTestsBy s n node)
 
 -- the contents with other formulas and words
 abbrev pub withFormulas : Memory → List ℕ → List ℕ → Memory

@@ -18,7 +18,7 @@ use Rattle.format.specs.Tests.{sameKind, lastIs}
 use Rattle.rules.specs.RuleTable.{kindNumber, ruleNumber}
 use Rattle.rules.proofs.RuleNumbers.{rule-number}
 use Rattle.tables.specs.Holding.{HoldsRows}
-use Rattle.tables.specs.Records.{rowOf}
+use Rattle.tables.specs.Records.{rowFrom}
 use Rattle.tables.proofs.Encoded.{rule-held, side-held}
 use Rattle.rows.specs.Last.{elkRow, lastBy, LastIs}
 
@@ -42,7 +42,7 @@ noRow = record { rule = Rule.def; principal = none; premises = []; left = []; ri
 module _ (rows lefts rights : List ℕ) where
   -- the kind of a row's rule, by its record
   abbrev kindAt : ℕ → ℕ
-  kindAt n = ruleNumber (rowOf (rowAt rows n) .rule) 1
+  kindAt n = ruleNumber (rowFrom (rowAt rows n) .rule) 1
 
   module _ (count : ℕ) (left right : List ℕ) where
     pub none-last : count ≡ 0 → lastBy rows lefts rights count left right ≡ false

@@ -14,7 +14,7 @@ use Rattle.format.specs.Tables.{absent, rowAt}
 use Rattle.format.specs.Tests.{sameKind, sameKinds, present, sameTruth, premisesOf, wrongPremises}
 use Rattle.format.proofs.GoodBodies.{in-getD}
 use Rattle.text.specs.Numbers.{principalAs}
-use Rattle.tables.specs.Records.{rowOf}
+use Rattle.tables.specs.Records.{rowFrom}
 use Rattle.tables.proofs.Encoded.{rule-held}
 use Rattle.rules.specs.RuleTable.{kindNumber, kindNumbers, truthNumber, ruleNumbers, ruleNumber}
 use Rattle.rules.proofs.RuleNumbers.{rule-number}
@@ -136,9 +136,9 @@ module _ {b : Body} {q : Row} {formulas notes rows leftPool rightPool left right
   premise-earlier k h = j .premises-earlier (getD (q .premises) k absent) (in-getD (q .premises) k absent h)
 
   pub premise-kind : (k i : ℕ) → k < length (q .premises) → getD (q .premises) k absent ≡ i
-      → ruleNumber (rowOf (rowAt rows i) .rule) 1 ≡ kindNumber (kindOf (entry (premiseRow b q k .rule)))
+      → ruleNumber (rowFrom (rowAt rows i) .rule) 1 ≡ kindNumber (kindOf (entry (premiseRow b q k .rule)))
   premise-kind k i h e =
-      ap (λ (n : ℕ). ruleNumber (rowOf (rowAt rows n) .rule) 1) (sym e)
+      ap (λ (n : ℕ). ruleNumber (rowFrom (rowAt rows n) .rule) 1) (sym e)
       ∙ ap (λ (code : ℕ). ruleNumber code 1) (rule-held (j .rows-held) (getD (q .premises) k absent) q (premise-earlier k h))
       ∙ rule-number (premiseRow b q k .rule) 1 (omega arith)
 
@@ -242,7 +242,7 @@ module _ {b : Body} {q : Row} {formulas notes rows leftPool rightPool left right
         pub none-wrong : count ≡ 0 → false ≡ wrongPremises b q
         none-wrong z = sym (right-none b q as-many named (sym count-asked ∙ z))
 
-        module _ (some : count ≡ 0 → ⊥) (kind asked-kind : ℕ) (is-kind : kind ≡ ruleNumber (rowOf (rowAt rows (d .first)) .rule) 1)
+        module _ (some : count ≡ 0 → ⊥) (kind asked-kind : ℕ) (is-kind : kind ≡ ruleNumber (rowFrom (rowAt rows (d .first)) .rule) 1)
             (is-asked-kind : asked-kind ≡ ruleNumber (d .rule) 4) where
           first-had : kind ≡ premiseKind b q 0
           first-had = is-kind ∙ premise-kind j 0 (d .first) (omega (arith, as-many, count-asked)) (j .first-premise)
@@ -260,7 +260,7 @@ module _ {b : Body} {q : Row} {formulas notes rows leftPool rightPool left right
             pub one-right : count ≡ 1 → false ≡ wrongPremises b q
             one-right e = sym (right-one b q as-many named first-right (sym count-asked ∙ e))
 
-            module _ (more : count ≡ 1 → ⊥) (kind₂ asked-kind₂ : ℕ) (is-kind₂ : kind₂ ≡ ruleNumber (rowOf (rowAt rows (d .second)) .rule) 1)
+            module _ (more : count ≡ 1 → ⊥) (kind₂ asked-kind₂ : ℕ) (is-kind₂ : kind₂ ≡ ruleNumber (rowFrom (rowAt rows (d .second)) .rule) 1)
                 (is-asked-kind₂ : asked-kind₂ ≡ ruleNumber (d .rule) 5) where
               two : length asksFor ≡ 2
               two = omega (arith, two-at-most (q .rule), count-asked)

@@ -11,12 +11,12 @@ use Rattle.format.specs.Tables.{Side, fetched, rowAt}
 use Rattle.format.specs.Tests.{lastIs}
 use Rattle.rules.specs.RuleTable.{ruleNumber}
 use Rattle.tables.specs.Holding.{HoldsRows}
-use Rattle.tables.specs.Records.{rowOf}
+use Rattle.tables.specs.Records.{rowFrom}
 
 -- the rule of row n is one of ELK, by its record, and its sides are these, as they are fetched
 abbrev pub elkRow : List ℕ → List ℕ → List ℕ → ℕ → List ℕ → List ℕ → Bool
 elkRow rows lefts rights n left right =
-    eqb (ruleNumber (rowOf (rowAt rows n) .rule) 1) 0
+    eqb (ruleNumber (rowFrom (rowAt rows n) .rule) 1) 0
     && sameList (fetched rows lefts rights Side.left n) left
     && sameList (fetched rows lefts rights Side.right n) right
 

@@ -6,7 +6,7 @@ ghost use Rattle.elk.specs.Rules.{entry};
 ghost use Rattle.format.specs.File.{Row, Body};
 ghost use Rattle.format.specs.Tables.{rowAt};
 ghost use Rattle.format.specs.Tests.{wrongPremises};
-ghost use Rattle.tables.specs.Records.{rowOf};
+ghost use Rattle.tables.specs.Records.{rowFrom};
 ghost use Rattle.rules.specs.RuleTable.{ruleNumber};
 ghost use Rattle.rows.specs.Judging.{namedOf, Judging};
 use drafts::Draft;
@@ -22,7 +22,7 @@ use text::numbers::Optional;
 
 // The number of a row's kind: 0 for ELK, 1 for refutation.
 fn kind_of(rows: &[u16], i: u16) -> u8
-    ensures { λ r. ⌜ r ≡ ruleNumber (rowOf (rowAt (now (rows .entry)) i) .rule) 1 ⌝ }
+    ensures { λ r. ⌜ r ≡ ruleNumber (rowFrom (rowAt (now (rows .entry)) i) .rule) 1 ⌝ }
 {
     let record = row(rows, wide(i));
     rule_number(record.rule, KIND)

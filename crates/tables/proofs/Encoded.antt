@@ -15,7 +15,7 @@ use Rattle.format.specs.File.{Node, Row, Name}
 use Rattle.elk.specs.Rules.{codeOf}
 use Rattle.format.specs.Tables.{Side, fetched, part, rowAt, padded, joinAll, nodeRecord, nameRecord}
 use Rattle.format.specs.Tables.{nameWidth, nodeWidth, rowWidth, rowRecord, recordsAfter, rowRecords}
-use Rattle.tables.specs.Records.{onSide, written, nodeAt, rowOf}
+use Rattle.tables.specs.Records.{onSide, written, nodeAt, rowFrom}
 use Rattle.tables.specs.Holding.{Begins, HoldsNodes, HoldsRows}
 use Rattle.tables.specs.Names.{firstRecords, spelled, spelledBy, StandsIn}
 use Rattle.tables.proofs.Placed.{part-between, written-padded}
@@ -161,8 +161,8 @@ module _ {rows : List Row} {table left right : List ℕ} (held : HoldsRows rows 
       split = ap rowRecords (split-at rows i d h) ∙ records-append [] (take i rows) (getD rows i d ∷ drop (suc i) rows)
 
   -- the rule of record i is the code of the row's rule
-  pub rule-held : rowOf (rowAt table i) .rule ≡ codeOf (getD rows i d .rule)
-  rule-held = ap (λ (t : List ℕ). rowOf t .rule) row-held
+  pub rule-held : rowFrom (rowAt table i) .rule ≡ codeOf (getD rows i d .rule)
+  rule-held = ap (λ (t : List ℕ). rowFrom t .rule) row-held
 
   -- what is fetched of row i is that side of it
   pub side-held : (side : Side) → fetched table left right side i ≡ onSide side (getD rows i d)

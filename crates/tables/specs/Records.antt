@@ -27,8 +27,8 @@ abbrev pub nodeAt : List ℕ → ℕ → List ℕ
 nodeAt formulas i = part formulas (nodeWidth * i) nodeWidth
 
 -- a record as its numbers, and numbers as a record, of which those that are missing are absent
-abbrev pub nodeNumbers : NodeRecord → List ℕ
-nodeNumbers n = n .word ∷ n .first ∷ n .second ∷ []
+abbrev pub recordNumbers : NodeRecord → List ℕ
+recordNumbers n = n .word ∷ n .first ∷ n .second ∷ []
 
 abbrev pub recordFrom : List ℕ → NodeRecord
 recordFrom numbers = record { word = getD numbers 0 absent; first = getD numbers 1 absent; second = getD numbers 2 absent }
@@ -36,8 +36,8 @@ recordFrom numbers = record { word = getD numbers 0 absent; first = getD numbers
 abbrev pub rowNumbers : RowRecord → List ℕ
 rowNumbers r = r .rule ∷ r .principal ∷ r .first ∷ r .second ∷ r .«left_start» ∷ r .«left_length» ∷ r .«right_start» ∷ r .«right_length» ∷ []
 
-abbrev pub rowOf : List ℕ → RowRecord
-rowOf numbers =
+abbrev pub rowFrom : List ℕ → RowRecord
+rowFrom numbers =
     record {
       rule = getD numbers 0 absent;
       principal = getD numbers 1 absent;

@@ -8,7 +8,7 @@ ghost use lib.ListN.{take};
 ghost use Rattle.format.specs.Tables.{rowWidth, rowAt};
 ghost use Rattle.format.specs.Tables.{part as partOf};
 ghost use Rattle.format.specs.Tables.{nameWidth, nodeWidth};
-ghost use Rattle.tables.specs.Records.{written, nodeNumbers, rowNumbers, nodeAt, recordFrom, rowOf};
+ghost use Rattle.tables.specs.Records.{written, recordNumbers, rowNumbers, nodeAt, recordFrom, rowFrom};
 use counts::limits::NAME_WIDTH;
 use counts::limits::NODE_WIDTH;
 use counts::limits::ROW_WIDTH;
@@ -100,7 +100,7 @@ pub fn node(formulas: &[u16], i: usize) -> NodeRecord
 
 // Record i of the rows table.
 pub fn row(rows: &[u16], i: usize) -> RowRecord
-    ensures { λ r. ⌜ r ≡ rowOf (rowAt (now (rows .entry)) i) ⌝ }
+    ensures { λ r. ⌜ r ≡ rowFrom (rowAt (now (rows .entry)) i) ⌝ }
 {
     if i >= rows.len() / ROW_WIDTH {
         return RowRecord {
@@ -141,7 +141,7 @@ pub fn put_name(names: &mut [u16], count: usize, start: u16, len: u16)
 
 // Writes the record of a formula.
 pub fn put_node(formulas: &mut [u16], count: usize, node: NodeRecord)
-    ensures { λ _. ⌜ now (formulas .exit) ≡ written (now (formulas .entry)) (nodeWidth * count) (nodeNumbers node) ⌝ }
+    ensures { λ _. ⌜ now (formulas .exit) ≡ written (now (formulas .entry)) (nodeWidth * count) (recordNumbers node) ⌝ }
 {
     if count >= formulas.len() / NODE_WIDTH {
         return;

@@ -13,7 +13,7 @@ use borrow.Author.Tests.{lt-ltb, le-ltb, ltb-true}
 use Rattle.format.specs.Text.{comma, partsAt, each, is, listOf, numberOf, strictlyRising, _<$>_, _<*>_}
 use Rattle.parts.specs.Refusals.{badIfNone}
 use Rattle.parts.specs.Parts.{before, nextAt, between}
-use Rattle.text.specs.Numbers.{numberAs, digits, entryAs, numberAt}
+use Rattle.text.specs.Numbers.{numberAs, digitsAhead, entryAs, numberAt}
 use Rattle.text.specs.Lists.{largest, laidOver, listedAs, ListedInto, entryAt, HeldList, listRefusal, leads, numbersAhead, entriesOf}
 use Rattle.text.specs.declared.numbers.Entry.{Entry}
 use Rattle.text.specs.declared.lists.Listed.{Listed}
@@ -83,11 +83,11 @@ module _ (field : List ℕ) (at : ℕ) (inside : at ≤ length field) where
   unfolding part
   part-end = omega (arith, length-take (nextAt comma field at - at) (drop at field), length-drop at field, next-bounds comma field at inside)
 
-  part-digits : digits part ≡ digits (drop at field)
+  part-digits : digitsAhead part ≡ digitsAhead (drop at field)
   unfolding part
   part-digits =
       let size : nextAt comma field at - at ≡ before comma (drop at field) = omega (arith, next-inside comma field at inside) in
-      ap (λ n. digits (take n (drop at field))) size ∙ digits-to-comma (drop at field)
+      ap (λ n. digitsAhead (take n (drop at field))) size ∙ digits-to-comma (drop at field)
 
   entry-is : (o : Option ℕ) → numberOf part ≡ o → entryAs (numberAs o) (nextAt comma field at) ≡ entryAt field at
   unfolding entryAt part

@@ -17,7 +17,7 @@ use Rattle.format.specs.Text.{Bytes, numberOf, isDigit, all, leadingZero, value
 use Rattle.format.proofs.Booleans.{and-true as both}
 use Rattle.parts.specs.Refusals.{badIfNone}
 use Rattle.parts.specs.Parts.{before}
-use Rattle.text.specs.Numbers.{numberAs, principalAs, digits, entryAs, numberAt, numberRefusal, NumberRead, principalRefusal, PrincipalRead}
+use Rattle.text.specs.Numbers.{numberAs, principalAs, digitsAhead, entryAs, numberAt, numberRefusal, NumberRead, principalRefusal, PrincipalRead}
 use Rattle.text.specs.declared.numbers.Number.{Number}
 use Rattle.text.specs.declared.numbers.Optional.{Optional}
 use Rattle.text.specs.declared.numbers.Entry.{Entry}
@@ -87,62 +87,62 @@ principal-answered field e = record { answer = e; refusal = ap principalRefusal 
 
 -- ---- the digits at the start of some bytes
 
-digits-all : (bs : Bytes) → all isDigit (digits bs) ≡ true
-unfolding digits
+digits-all : (bs : Bytes) → all isDigit (digitsAhead bs) ≡ true
+unfolding digitsAhead
 digits-all [] = refl
 digits-all (b ∷ bs) = by-test (isDigit b) refl (digits-all bs)
   where
-    by-test : (t : Bool) → isDigit b ≡ t → all isDigit (digits bs) ≡ true → all isDigit (cond t (b ∷ digits bs) []) ≡ true
+    by-test : (t : Bool) → isDigit b ≡ t → all isDigit (digitsAhead bs) ≡ true → all isDigit (cond t (b ∷ digitsAhead bs) []) ≡ true
     by-test true e rest = simp (e, rest)
     by-test false e rest = refl
 
-digits-length : (bs : Bytes) → length (digits bs) ≤ length bs
-unfolding digits
+digits-length : (bs : Bytes) → length (digitsAhead bs) ≤ length bs
+unfolding digitsAhead
 digits-length [] = omega arith
 digits-length (b ∷ bs) = by-test (isDigit b) (digits-length bs)
   where
-    by-test : (t : Bool) → length (digits bs) ≤ length bs → length (cond t (b ∷ digits bs) []) ≤ suc (length bs)
+    by-test : (t : Bool) → length (digitsAhead bs) ≤ length bs → length (cond t (b ∷ digitsAhead bs) []) ≤ suc (length bs)
     by-test true rest = omega arith
     by-test false rest = omega arith
 
-digits-first : (bs : Bytes) → 1 ≤ length (digits bs) → getD (digits bs) 0 0 ≡ getD bs 0 0
-unfolding digits
+digits-first : (bs : Bytes) → 1 ≤ length (digitsAhead bs) → getD (digitsAhead bs) 0 0 ≡ getD bs 0 0
+unfolding digitsAhead
 digits-first [] h = refl
 digits-first (b ∷ bs) h = by-test (isDigit b) h
   where
-    by-test : (t : Bool) → 1 ≤ length (cond t (b ∷ digits bs) []) → getD (cond t (b ∷ digits bs) []) 0 0 ≡ b
+    by-test : (t : Bool) → 1 ≤ length (cond t (b ∷ digitsAhead bs) []) → getD (cond t (b ∷ digitsAhead bs) []) 0 0 ≡ b
     by-test true h = refl
     by-test false h = absurd (omega arith)
 
-digits-whole : (bs : Bytes) → length (digits bs) ≡ length bs → digits bs ≡ bs
-unfolding digits
+digits-whole : (bs : Bytes) → length (digitsAhead bs) ≡ length bs → digitsAhead bs ≡ bs
+unfolding digitsAhead
 digits-whole [] h = refl
 digits-whole (b ∷ bs) h = by-test (isDigit b) h (digits-whole bs)
   where
-    by-test : (t : Bool) → length (cond t (b ∷ digits bs) []) ≡ suc (length bs) → (length (digits bs) ≡ length bs → digits bs ≡ bs)
-        → cond t (b ∷ digits bs) [] ≡ b ∷ bs
+    by-test : (t : Bool) → length (cond t (b ∷ digitsAhead bs) []) ≡ suc (length bs) → (length (digitsAhead bs) ≡ length bs → digitsAhead bs ≡ bs)
+        → cond t (b ∷ digitsAhead bs) [] ≡ b ∷ bs
     by-test true h rest = ap (λ ds. b ∷ ds) (rest (omega arith))
     by-test false h rest = absurd (omega arith)
 
-digits-part : (bs : Bytes) → length (digits bs) < length bs → all isDigit bs ≡ false
-unfolding digits
+digits-part : (bs : Bytes) → length (digitsAhead bs) < length bs → all isDigit bs ≡ false
+unfolding digitsAhead
 digits-part [] h = absurd (omega arith)
 digits-part (b ∷ bs) h = by-test (isDigit b) h (digits-part bs)
   where
-    by-test : (t : Bool) → length (cond t (b ∷ digits bs) []) < suc (length bs) → (length (digits bs) < length bs → all isDigit bs ≡ false)
+    by-test : (t : Bool) → length (cond t (b ∷ digitsAhead bs) []) < suc (length bs) → (length (digitsAhead bs) < length bs → all isDigit bs ≡ false)
         → t && all isDigit bs ≡ false
     by-test true h rest = rest (omega arith)
     by-test false h rest = refl
 
 -- a comma is no digit
-pub digits-to-comma : (bs : Bytes) → digits (take (before comma bs) bs) ≡ digits bs
-unfolding digits before
+pub digits-to-comma : (bs : Bytes) → digitsAhead (take (before comma bs) bs) ≡ digitsAhead bs
+unfolding digitsAhead before
 digits-to-comma [] = refl
 digits-to-comma (b ∷ bs) = by-test (eqb b comma) refl (digits-to-comma bs)
   where
-    by-test : (t : Bool) → eqb b comma ≡ t → digits (take (before comma bs) bs) ≡ digits bs
-        → digits (take (cond t 0 (suc (before comma bs))) (b ∷ bs)) ≡ digits (b ∷ bs)
-    by-test true e rest = ap (λ n. cond (isDigit n) (n ∷ digits bs) []) (sym (eqb-true b comma e))
+    by-test : (t : Bool) → eqb b comma ≡ t → digitsAhead (take (before comma bs) bs) ≡ digitsAhead bs
+        → digitsAhead (take (cond t 0 (suc (before comma bs))) (b ∷ bs)) ≡ digitsAhead (b ∷ bs)
+    by-test true e rest = ap (λ n. cond (isDigit n) (n ∷ digitsAhead bs) []) (sym (eqb-true b comma e))
     by-test false e rest = ap (λ ds. cond (isDigit b) (b ∷ ds) []) rest
 
 -- ---- a part of a field with the digits from `start` on: it is a number where it has nothing else
@@ -156,26 +156,26 @@ pub was-value : (o : Option ℕ) (k n end : ℕ) → entryAs (numberAs o) k ≡ 
 was-value none k n end e = let z : _≡_ {A = ℕ} 0 1 = cc in absurd (omega arith)
 was-value (some m) k n end e = (cc, cc)
 
-module _ (field : Bytes) (start : ℕ) (part : Bytes) (same : digits part ≡ digits (drop start field)) where
-  cut : length (digits part) < length part → numberOf part ≡ none
+module _ (field : Bytes) (start : ℕ) (part : Bytes) (same : digitsAhead part ≡ digitsAhead (drop start field)) where
+  cut : length (digitsAhead part) < length part → numberOf part ≡ none
   cut h = number-stray part (digits-part part h)
 
-  full : length (digits part) ≡ length part → numberOf part ≡ numberOf (digits (drop start field))
+  full : length (digitsAhead part) ≡ length part → numberOf part ≡ numberOf (digitsAhead (drop start field))
   full h = ap numberOf (sym (digits-whole part h) ∙ same)
 
   pub part-bad : numberAt field start ≡ Entry.Bad → numberOf part ≡ none
   unfolding numberAt
-  part-bad e = by-test (ltb (length (digits part)) (length part)) refl
+  part-bad e = by-test (ltb (length (digitsAhead part)) (length part)) refl
     where
-      by-test : (t : Bool) → ltb (length (digits part)) (length part) ≡ t → numberOf part ≡ none
+      by-test : (t : Bool) → ltb (length (digitsAhead part)) (length part) ≡ t → numberOf part ≡ none
       by-test true l = cut (ltb-true _ _ l)
       by-test false l =
-          full (omega (arith, digits-length part, ltb-false (length (digits part)) (length part) l)) ∙ was-bad (numberOf (digits (drop start field))) _ e
+          full (omega (arith, digits-length part, ltb-false (length (digitsAhead part)) (length part) l)) ∙ was-bad (numberOf (digitsAhead (drop start field))) _ e
 
   module _ (n end : ℕ) (e : numberAt field start ≡ Entry.Value n end) where
-    value-at : (numberOf (digits (drop start field)) ≡ some n) × (start + length (digits (drop start field)) ≡ end)
+    value-at : (numberOf (digitsAhead (drop start field)) ≡ some n) × (start + length (digitsAhead (drop start field)) ≡ end)
     unfolding numberAt
-    value-at = was-value (numberOf (digits (drop start field))) (start + length (digits (drop start field))) n end e
+    value-at = was-value (numberOf (digitsAhead (drop start field))) (start + length (digitsAhead (drop start field))) n end e
 
     pub part-within : (start ≤ end) × (end ≤ start + length part)
     part-within = omega (arith, value-at .1, digits-length part, ap length same)
@@ -196,8 +196,8 @@ pub record Reading (field : Bytes) (start value end : ℕ) : Type 0 where
   pub from : start ≤ end
   pub within : end ≤ length field
   pub few : end ≤ start + 5
-  pub counted : start + length (digits (drop start field)) ≡ end + length (digits (drop end field))
-  pub whole : valueFrom 0 (digits (drop start field)) ≡ valueFrom value (digits (drop end field))
+  pub counted : start + length (digitsAhead (drop start field)) ≡ end + length (digitsAhead (drop end field))
+  pub whole : valueFrom 0 (digitsAhead (drop start field)) ≡ valueFrom value (digitsAhead (drop end field))
   pub small : (k : ℕ) → end ≤ start + k → value < 10 ^ k
 
 pub reading-none : (field : Bytes) (start : ℕ) → start ≤ length field → Reading field start 0 start
@@ -212,14 +212,14 @@ reading-none field start inside =
     }
 
 module _ (field : Bytes) (start value end : ℕ) (r : Reading field start value end) where
-  digit-here : end < length field → isDigit (getD field end 0) ≡ true → digits (drop end field) ≡ getD field end 0 ∷ digits (drop (end + 1) field)
-  unfolding digits
+  digit-here : end < length field → isDigit (getD field end 0) ≡ true → digitsAhead (drop end field) ≡ getD field end 0 ∷ digitsAhead (drop (end + 1) field)
+  unfolding digitsAhead
   digit-here h e = rw (add-one, drop-cons field end 0, e)
 
   -- a sixth digit
   pub reading-long : end < length field → isDigit (getD field end 0) ≡ true → end - start ≡ 5 → numberAt field start ≡ Entry.Bad
   unfolding numberAt
-  reading-long h e l = rw (number-long (digits (drop start field)) (omega (arith, ap length (digit-here h e))))
+  reading-long h e l = rw (number-long (digitsAhead (drop start field)) (omega (arith, ap length (digit-here h e))))
 
   module _ (room : end - start ≡ 5 → ⊥) where
     pub reading-small : value < 10000
@@ -241,18 +241,18 @@ module _ (field : Bytes) (start value end : ℕ) (r : Reading field start value 
         more d zero l = absurd (omega arith)
         more d (suc k) l = rw pow-suc (omega (arith, r .small k (omega arith)))
 
-  pub reading-past : length field ≤ end → digits (drop end field) ≡ []
-  unfolding digits
+  pub reading-past : length field ≤ end → digitsAhead (drop end field) ≡ []
+  unfolding digitsAhead
   reading-past h = rw (drop-of-length-le field)
 
-  pub reading-stray : end < length field → isDigit (getD field end 0) ≡ false → digits (drop end field) ≡ []
-  unfolding digits
+  pub reading-stray : end < length field → isDigit (getD field end 0) ≡ false → digitsAhead (drop end field) ≡ []
+  unfolding digitsAhead
   reading-stray h e = rw (drop-cons field end 0, e)
 
   -- no digit at `end`
-  module _ (stop : digits (drop end field) ≡ []) where
+  module _ (stop : digitsAhead (drop end field) ≡ []) where
     run : Bytes
-    run = digits (drop start field)
+    run = digitsAhead (drop start field)
 
     reaches : start + length run ≡ end
     unfolding run

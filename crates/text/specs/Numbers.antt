@@ -48,10 +48,10 @@ entryAs Number.Bad end = Entry.Bad
 entryAs (Number.Value n) end = Entry.Value n end
 
 -- the digits at the start
-unfoldable pub digits : Bytes → Bytes
-digits [] = []
-digits (b ∷ bs) = cond (isDigit b) (b ∷ digits bs) []
+unfoldable pub digitsAhead : Bytes → Bytes
+digitsAhead [] = []
+digitsAhead (b ∷ bs) = cond (isDigit b) (b ∷ digitsAhead bs) []
 
 -- the number that the run of digits from a place on writes
 unfoldable pub numberAt : Bytes → ℕ → Entry
-numberAt field start = entryAs (numberAs (numberOf (digits (drop start field)))) (start + length (digits (drop start field)))
+numberAt field start = entryAs (numberAs (numberOf (digitsAhead (drop start field)))) (start + length (digitsAhead (drop start field)))

@@ -28,7 +28,7 @@ use Rattle.known.specs.Known.{AtomNotes}
 use Rattle.sides.proofs.Sets.{any-iff}
 use Rattle.unstable.specs.Joins.{middlesIn}
 use Rattle.unstable.specs.Fixing.{Fixes}
-use Rattle.unstable.specs.Unstable.{onSide, WordOf, Reads, UnstableIn, UnstableSides}
+use Rattle.unstable.specs.Unstable.{occursOn, WordOf, Reads, UnstableIn, UnstableSides}
 use Rattle.unstable.proofs.Steps.{rising-of}
 use Rattle.unstable.proofs.Joined.{choice-sound, choice-complete, middles-iff}
 use Rattle.unstable.proofs.ChoiceSets.{chosen-part, chosen-rising, in-atoms}
@@ -100,9 +100,9 @@ module _
   second-one i = ap length (alone g rightTwo _ t₂ (unstable-iff .0 i .refuted .right) .1)
 
   -- v is the word of the atoms of L
-  module _ {v : ℕ} (is-v : WordOf (λ p. onSide notes left p ≡ true) v) where
+  module _ {v : ℕ} (is-v : WordOf (λ p. occursOn notes left p ≡ true) v) where
     in-v : (p : ℕ) → Member p v ↔ (p ∈ atomsIn (decoded (b .nodes) left))
-    unfolding onSide
+    unfolding occursOn
     in-v p = (to, from)
       where
         test : ℕ → Bool

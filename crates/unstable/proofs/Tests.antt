@@ -17,7 +17,7 @@ use Rattle.sides.proofs.Deciding.{decides-no, decides-iff, no-if, decided}
 use Rattle.unstable.specs.declared.joins.Choice.{Choice}
 use Rattle.unstable.specs.Joins.{choiceIn, Chooses, middlesIn}
 use Rattle.unstable.specs.Fixing.{Fixes}
-use Rattle.unstable.specs.Unstable.{onSide, WordOf, Reads, UnstableIn, UnstableStep}
+use Rattle.unstable.specs.Unstable.{occursOn, WordOf, Reads, UnstableIn, UnstableStep}
 use Rattle.unstable.proofs.Steps.{more-there}
 use Rattle.unstable.proofs.Words.{word-unique}
 use Rattle.unstable.proofs.Instances.{left-same, first-one, second-one, instance-in, in-instance}
@@ -65,7 +65,7 @@ module _ (formulas notes left leftOne rightOne leftTwo rightTwo : List ℕ) wher
   }
 
   -- v is the word of the atoms of L
-  module _ {v : ℕ} (is-v : WordOf (λ p. onSide notes left p ≡ true) v) where
+  module _ {v : ℕ} (is-v : WordOf (λ p. occursOn notes left p ≡ true) v) where
     step : {r : Bool} → DecidesIf (AllRise (leftTwo ∷ left ∷ [])) In r → Step r
     step d = record {
       answer = d;

@@ -8,7 +8,7 @@ use lib.Bits.{bitAnd, and-lt}
 use Rattle.atomset.specs.AtomSet.{has, Member}
 use Rattle.atomset.proofs.Digits.{has-and-not}
 use Rattle.atomset.proofs.Membership.{member-difference, included-antisym}
-use Rattle.unstable.specs.Unstable.{onSide, WordOf}
+use Rattle.unstable.specs.Unstable.{occursOn, WordOf}
 
 -- a property has one word
 pub word-unique : {P : ℕ → Type 0} {a b : ℕ} → WordOf P a → WordOf P b → a ≡ b
@@ -17,7 +17,7 @@ word-unique {a} {b} wa wb =
 
 -- the atoms of a side, as they were gathered
 pub atoms-word :
-    (notes side : List ℕ) (v : ℕ) → v < 2 ^ 64 → ((p : ℕ) → has v p ≡ onSide notes side p) → WordOf (λ p. onSide notes side p ≡ true) v
+    (notes side : List ℕ) (v : ℕ) → v < 2 ^ 64 → ((p : ℕ) → has v p ≡ occursOn notes side p) → WordOf (λ p. occursOn notes side p ≡ true) v
 atoms-word notes side v h e = record { small = h; its = λ p. (λ m. sym (e p) ∙ m, λ t. e p ∙ t) }
 
 -- v without the members of set

@@ -23,8 +23,8 @@ use Rattle.unstable.specs.Joins.{choiceIn, middlesIn}
 use Rattle.unstable.specs.Fixing.{Fixes}
 
 -- p is an atom of a formula of the side
-unfoldable pub onSide : List ℕ → List ℕ → ℕ → Bool
-onSide notes side p = any (λ x. has (getD notes x 0) p) side
+unfoldable pub occursOn : List ℕ → List ℕ → ℕ → Bool
+occursOn notes side p = any (λ x. has (getD notes x 0) p) side
 
 -- the word of the atoms that have the property
 pub record WordOf (P : ℕ → Type 0) (w : ℕ) : Type 0 where
@@ -36,7 +36,7 @@ pub record Reads (formulas notes left leftOne rightOne rightTwo : List ℕ) (v k
   pub same-left : left ≡ leftOne
   pub first-right : rightOne ≡ k ∷ []
   pub second-right : rightTwo ≡ e ∷ []
-  pub atoms : WordOf (λ p. onSide notes left p ≡ true) v
+  pub atoms : WordOf (λ p. occursOn notes left p ≡ true) v
   pub p : ℕ
   pub ps : List ℕ
   pub all : members v ≡ p ∷ ps

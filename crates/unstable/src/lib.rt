@@ -6,7 +6,7 @@ mod joins;
 ghost use mathlib.Core.Path.{_≡_};
 ghost use Prim.Native.Nat.{ℕ};
 ghost use Rattle.atomset.specs.AtomSet.{has as hasAtom};
-ghost use Rattle.unstable.specs.Unstable.{onSide, UnstableStep};
+ghost use Rattle.unstable.specs.Unstable.{occursOn, UnstableStep};
 use atomset::difference;
 use atomset::is_empty;
 use atomset::union;
@@ -19,7 +19,7 @@ use tables::records::wide;
 
 // The atoms of the formulas of a side.
 fn atoms_of_side(notes: &[u64], side: &[u16]) -> u64
-    ensures { λ r. ⌜ ((p : ℕ) → hasAtom r p ≡ onSide (now (notes .entry)) (now (side .entry)) p) ⌝ }
+    ensures { λ r. ⌜ ((p : ℕ) → hasAtom r p ≡ occursOn (now (notes .entry)) (now (side .entry)) p) ⌝ }
 {
     let mut set = 0;
     let mut i = 0;

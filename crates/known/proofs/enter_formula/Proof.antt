@@ -3,7 +3,7 @@ use Prim.Native.Nat.{ℕ}
 use mathlib.Core.List.{List}
 use mathlib.Core.Path.{refl, ap, subst, _∙_}
 use borrow.Author.Needs.{needs}
-use Rattle.tables.specs.Records.{nodeNumbers}
+use Rattle.tables.specs.Records.{recordNumbers}
 use Rattle.known.specs.Index.{entered, placeIn, NodeFound}
 use Rattle.known.specs.Entering.{full, held, new}
 use Rattle.known.proofs.Entries.{formula-entered}
@@ -65,7 +65,7 @@ returns-3 c =
       atoms = notes-put .before .record-atoms .result;
       atoms-are = notes-put .before .record-atoms .ensures;
       put = node-put .put-node .ensures;
-      noted = c .before .before .enter-node .ensures ∙ ap (λ (l : List ℕ). entered l (args .count) (nodeNumbers (args .key))) (notes-put .put-note .ensures);
+      noted = c .before .before .enter-node .ensures ∙ ap (λ (l : List ℕ). entered l (args .count) (recordNumbers (args .key))) (notes-put .put-note .ensures);
     }))
 
 pub enter-formula-spec : {M : Type 1} → statement M

@@ -6,7 +6,7 @@ use mathlib.Core.Path.{_≡_, sym, ap, subst, _∙_}
 use lib.ListN.{length, getD}
 use Rattle.atomset.specs.AtomSet.{has}
 use Rattle.atomset.proofs.Digits.{has-zero}
-use Rattle.unstable.specs.Unstable.{onSide}
+use Rattle.unstable.specs.Unstable.{occursOn}
 use Rattle.shapes.proofs.Passes.{Passed, pass-starts, pass-goes-on, pass-ends}
 use borrow.Author.Needs.{needs}
 use Rattle.unstable.proofs.atoms_of_side.Statement.{statement}
@@ -65,7 +65,7 @@ loop-again c =
     (c .before .before .wide .ensures)
 
 returns : tie.Need-returns Inv-loop μ-loop
-unfolding onSide
+unfolding occursOn
 returns c = λ p.
     let turn = c .before in
     let start = turn .before .before .before in

@@ -7,7 +7,7 @@ use mathlib.Core.Path.{_≡_, sym, ap, _∙_}
 use borrow.Author.Needs.{needs}
 use borrow.Author.Tests.{le-leb, lt-leb}
 use lib.ListN.{getD, set}
-use Rattle.tables.specs.Records.{nodeNumbers}
+use Rattle.tables.specs.Records.{recordNumbers}
 use Rattle.known.specs.Index.{slotNotes, formulaNotes, slotOf, entered}
 use Rattle.known.proofs.index.enter_node.Statement.{statement}
 use Rattle.known.proofs.index.enter_node.Tie as tie
@@ -27,7 +27,7 @@ module _ (notes : List ℕ) (i : ℕ) (numbers : List ℕ) where
       ∙ sym (ap (λ (t : Bool). cond t notes (linked (slotOf numbers) (getD notes (slotNotes + slotOf numbers) 0))) (lt-leb 1024 i h))
 
 returns : tie.Need-returns
-returns c = outside _ _ (nodeNumbers (c .before .before .args .key)) (c .if1 .taken)
+returns c = outside _ _ (recordNumbers (c .before .before .args .key)) (c .if1 .taken)
 
 slot-requires : tie.Need-slot-requires
 slot-requires c κs = search needs
@@ -61,7 +61,7 @@ returns-2 c =
     let s = asked .before .before .slot in
     c .before .before .put-note2 .ensures
     ∙ ap (λ (l : List ℕ). set l (slotNotes + s .result) (i + 1)) (c .before .before .before .before .before .before .put-note .ensures)
-    ∙ inside notes i (nodeNumbers (asked .before .before .before .before .before .args .key))
+    ∙ inside notes i (recordNumbers (asked .before .before .before .before .before .args .key))
     (asked .before .before .before .if1 .left) (s .result) (asked .note .result) (s .ensures) (asked .note .ensures)
 
 pub enter-node-spec : {M : Type 1} → statement M

@@ -9,7 +9,7 @@ use borrow.Author.Needs.{needs}
 use lib.ListN.{length, getD}
 use Rattle.format.specs.File.{Node}
 use Rattle.format.specs.Tables.{nodeRecord}
-use Rattle.tables.specs.Records.{nodeNumbers}
+use Rattle.tables.specs.Records.{recordNumbers}
 use Rattle.tables.specs.Holding.{HoldsNodes}
 use Rattle.known.specs.Index.{slotNotes, Indexed}
 use Rattle.format.proofs.Equal.{same-iff}
@@ -19,7 +19,7 @@ use Rattle.known.proofs.index.find_node.Tie as tie
 
 abbrev Inv-loop : tie.InvT-loop
 Inv-loop formulas notes key after₀ after =
-    (nodes : List Node) → HoldsNodes nodes formulas → Indexed nodes notes → Cursor nodes (nodeNumbers key) after
+    (nodes : List Node) → HoldsNodes nodes formulas → Indexed nodes notes → Cursor nodes (recordNumbers key) after
 
 abbrev μ-loop : tie.MeasureT-loop
 μ-loop formulas notes key after₀ after = after
@@ -36,9 +36,9 @@ note-requires c κs = search needs
 loop-holds : tie.Need-loop-holds Inv-loop μ-loop
 loop-holds c nodes held index =
     let args = c .before .before .before .before .args in
-    subst (Cursor nodes (nodeNumbers (args .key)))
+    subst (Cursor nodes (recordNumbers (args .key)))
     (sym (c .note .ensures ∙ ap (λ (s : ℕ). getD (args .notes .now) (slotNotes + s) 0) (c .before .slot .ensures)))
-    (walk-start nodes (nodeNumbers (args .key)) (args .notes .now) index)
+    (walk-start nodes (recordNumbers (args .key)) (args .notes .now) index)
 
 sub-i : tie.Need-sub-i Inv-loop μ-loop
 sub-i c = omega arith
@@ -65,19 +65,19 @@ loop-again c nodes held index =
     let loop = c .before .before .before .before .loop in
     let i = loop .after - 1 in
     let one-past : loop .after ≡ suc i = omega arith in
-    let at : Cursor nodes (nodeNumbers (args .key)) (suc i) = subst (Cursor nodes (nodeNumbers (args .key))) one-past (loop .inv nodes held index) in
+    let at : Cursor nodes (recordNumbers (args .key)) (suc i) = subst (Cursor nodes (recordNumbers (args .key))) one-past (loop .inv nodes held index) in
     let here : i < length nodes = omega (arith, at .within) in
-    let other : nodeRecord (getD nodes i Node.bot) ≡ nodeNumbers (args .key) → ⊥ =
+    let other : nodeRecord (getD nodes i Node.bot) ≡ recordNumbers (args .key) → ⊥ =
     λ e. true≢false (sym (c .before .before .has-record .ensures ∙ same-iff _ _ .1 (record-there held i here ∙ e)) ∙ c .before .if1 .left) in
-    subst (Cursor nodes (nodeNumbers (args .key)))
-    (sym (c .past-last .ensures .1 (omega (arith, index .few)) (walk-falls nodes (nodeNumbers (args .key)) (args .notes .now) index i at)))
-    (walk-next nodes (nodeNumbers (args .key)) (args .notes .now) index i at other)
+    subst (Cursor nodes (recordNumbers (args .key)))
+    (sym (c .past-last .ensures .1 (omega (arith, index .few)) (walk-falls nodes (recordNumbers (args .key)) (args .notes .now) index i at)))
+    (walk-next nodes (recordNumbers (args .key)) (args .notes .now) index i at other)
 
 returns-2 : tie.Need-returns-2 Inv-loop μ-loop
 returns-2 c =
     let args = c .before .before .before .before .before .before .args in
     let ended : c .before .loop .after ≡ 0 = omega arith in
-    found-nowhere _ _ _ (λ nodes held index. subst (Cursor nodes (nodeNumbers (args .key))) ended (c .before .loop .inv nodes held index))
+    found-nowhere _ _ _ (λ nodes held index. subst (Cursor nodes (recordNumbers (args .key))) ended (c .before .loop .inv nodes held index))
 
 pub find-node-spec : {M : Type 1} → statement M
 find-node-spec =

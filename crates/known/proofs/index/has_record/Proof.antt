@@ -9,16 +9,16 @@ use lib.Dec.{eqb}
 use lib.ListN.{getD}
 use Rattle.format.specs.Text.{sameList}
 use Rattle.tables.specs.declared.records.NodeRecord.{NodeRecord}
-use Rattle.tables.specs.Records.{nodeNumbers}
+use Rattle.tables.specs.Records.{recordNumbers}
 use Rattle.format.proofs.Equal.{same-false}
 use Rattle.known.proofs.index.has_record.Statement.{statement}
 use Rattle.known.proofs.index.has_record.Tie as tie
 
 module _ (found key : NodeRecord) where
-  differs-at : (k : ℕ) → (getD (nodeNumbers found) k 0 ≡ getD (nodeNumbers key) k 0 → ⊥) → false ≡ sameList (nodeNumbers found) (nodeNumbers key)
+  differs-at : (k : ℕ) → (getD (recordNumbers found) k 0 ≡ getD (recordNumbers key) k 0 → ⊥) → false ≡ sameList (recordNumbers found) (recordNumbers key)
   differs-at k n = sym (same-false _ _ (λ e. n (ap (λ (numbers : List ℕ). getD numbers k 0) e)))
 
-  by-second : found .word ≡ key .word → found .first ≡ key .first → eqb (found .second) (key .second) ≡ sameList (nodeNumbers found) (nodeNumbers key)
+  by-second : found .word ≡ key .word → found .first ≡ key .first → eqb (found .second) (key .second) ≡ sameList (recordNumbers found) (recordNumbers key)
   unfolding sameList
   by-second w f =
       last (eqb (found .second) (key .second)) ∙ ap₂ (λ (a b : Bool). a && (b && (eqb (found .second) (key .second) && true)))
@@ -29,8 +29,8 @@ module _ (found key : NodeRecord) where
       last false = refl
 
 module _ {r : NodeRecord} {numbers : NodeRecord} (key : NodeRecord) (e : r ≡ numbers) where
-  same-as : sameList (nodeNumbers r) (nodeNumbers key) ≡ sameList (nodeNumbers numbers) (nodeNumbers key)
-  same-as = ap (λ (x : NodeRecord). sameList (nodeNumbers x) (nodeNumbers key)) e
+  same-as : sameList (recordNumbers r) (recordNumbers key) ≡ sameList (recordNumbers numbers) (recordNumbers key)
+  same-as = ap (λ (x : NodeRecord). sameList (recordNumbers x) (recordNumbers key)) e
 
 node-requires : tie.Need-node-requires
 node-requires c κs = search needs

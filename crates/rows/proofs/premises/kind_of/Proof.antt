@@ -4,7 +4,7 @@ use mathlib.Core.Path.{ap, _∙_}
 use borrow.Author.Needs.{needs}
 use Rattle.format.specs.Tables.{rowAt}
 use Rattle.rules.specs.RuleTable.{ruleNumber}
-use Rattle.tables.specs.Records.{rowOf}
+use Rattle.tables.specs.Records.{rowFrom}
 use Rattle.tables.specs.declared.records.RowRecord.{RowRecord}
 use Rattle.rows.proofs.premises.kind_of.Statement.{statement}
 use Rattle.rows.proofs.premises.kind_of.Tie as tie
@@ -23,7 +23,7 @@ returns c =
     let args = c .before .before .before .before .args in
     c .rule-number .ensures
     ∙ ap (λ (r : RowRecord). ruleNumber (r .rule) 1) (c .before .row .ensures)
-    ∙ ap (λ (i : ℕ). ruleNumber (rowOf (rowAt (args .rows .now) i) .rule) 1) (c .before .before .wide .ensures)
+    ∙ ap (λ (i : ℕ). ruleNumber (rowFrom (rowAt (args .rows .now) i) .rule) 1) (c .before .before .wide .ensures)
 
 pub kind-of-spec : {M : Type 1} → statement M
 kind-of-spec = tie.close (tie.spec wide-requires row-requires rule-number-requires returns)

@@ -5,7 +5,7 @@ use native.Mathlib.Omega.{arith}
 use mathlib.Core.Path.{sym}
 use lib.ListN.{length-set}
 use Rattle.format.specs.Tables.{nodeWidth}
-use Rattle.tables.specs.Records.{nodeNumbers}
+use Rattle.tables.specs.Records.{recordNumbers}
 use Rattle.tables.proofs.Placed.{written-outside, written-sets}
 use Rattle.tables.proofs.records.put_node.Statement.{statement}
 use Rattle.tables.proofs.records.put_node.Tie as tie
@@ -13,7 +13,7 @@ use Rattle.tables.proofs.records.put_node.Tie as tie
 returns : tie.Need-returns
 returns c =
     let args = c .before .args in
-    sym (written-outside (args .formulas .now) (nodeWidth * args .count) (nodeNumbers (args .node)) (omega arith))
+    sym (written-outside (args .formulas .now) (nodeWidth * args .count) (recordNumbers (args .node)) (omega arith))
 
 mul-at : tie.Need-mul-at
 mul-at c = omega arith
@@ -48,7 +48,7 @@ same-length c = simp length-set
 returns-2 : tie.Need-returns-2
 returns-2 c =
     let args = c .before .args in
-    simp towards-suc (written-sets (args .formulas .now) (nodeWidth * args .count) (nodeNumbers (args .node)) (omega arith))
+    simp towards-suc (written-sets (args .formulas .now) (nodeWidth * args .count) (recordNumbers (args .node)) (omega arith))
 
 pub put-node-spec : {M : Type 1} → statement M
 put-node-spec =

@@ -5,13 +5,13 @@ use mathlib.Core.Path.{sym, ap}
 use lib.Dec.{lit<}
 use lib.ListN.{length}
 use Rattle.format.specs.Tables.{absent, rowWidth}
-use Rattle.tables.specs.Records.{rowOf}
+use Rattle.tables.specs.Records.{rowFrom}
 use Rattle.tables.proofs.Placed.{part-outside, part-first, part-at}
 use Rattle.tables.proofs.records.row.Statement.{statement}
 use Rattle.tables.proofs.records.row.Tie as tie
 
 returns : tie.Need-returns
-returns c = ap rowOf (sym (part-outside (c .before .args .rows .now) _ rowWidth (omega arith)))
+returns c = ap rowFrom (sym (part-outside (c .before .args .rows .now) _ rowWidth (omega arith)))
 
 mul-at : tie.Need-mul-at
 mul-at c = omega arith

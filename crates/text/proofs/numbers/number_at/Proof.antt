@@ -10,7 +10,7 @@ use borrow.Author.Needs.{needs}
 use borrow.Author.Tests.{not-true, not-false}
 use lib.ListN.{length, drop}
 use Rattle.format.specs.Text.{isDigit}
-use Rattle.text.specs.Numbers.{digits}
+use Rattle.text.specs.Numbers.{digitsAhead}
 use Rattle.text.proofs.NumberLaws.{Reading, reading-none, reading-long, reading-small, reading-more, reading-past, reading-stray}
 use Rattle.text.proofs.NumberLaws.{digit-range, read-none, read-padded, read-value}
 use Rattle.text.proofs.numbers.number_at.Statement.{statement}
@@ -74,7 +74,7 @@ loop-again c =
     rw (c .wide32 .ensures) (reading-more _ _ _ _ (at-loop .loop .inv) (c .before .if2 .left) more digit)
 
 -- where the loop is left no digit follows
-no-more : (c : tie.Left-loop Inv-loop μ-loop) → digits (drop (c .before .loop .end) (c .before .before .before .args .field .now)) ≡ []
+no-more : (c : tie.Left-loop Inv-loop μ-loop) → digitsAhead (drop (c .before .loop .end) (c .before .before .before .args .field .now)) ≡ []
 no-more c =
     ⊎-elim
     (λ past. reading-past _ _ _ _ (c .before .loop .inv) (past .left))
