@@ -102,12 +102,14 @@ module _ {text : Bytes} {ran : Ran} {before after : Memory} {answer : Answer} (e
       let kept = over .lengths in
       λ i. record { names = kept .names i; formulas = kept .formulas i; rows = kept .rows i; left = kept .left i; right = kept .right i }
 
+  -- what the definition says, by the two kinds of answer
   Accepted : Answer → Type 0
   Accepted a = (judged lent text ≡ answerFrom top text noFile) × Accepts text (fiveOf after) a
 
   Refused : Answer → Type 0
   Refused a = (judged lent text ≡ turnedDown (a .number) (a .line)) × (a .number ≡ 0 → ⊥)
 
+  -- a text that is too long is refused by the run, any other by its lines
   either : Accepted answer ⊎ Refused answer
   unfolding lent Accepted Refused finished
   either = subst (λ (a : Answer). Accepted a ⊎ Refused a) (sym made) (by-length (ltb mostBytes (length text)) refl)

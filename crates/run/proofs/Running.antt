@@ -62,6 +62,7 @@ running-start text t fresh =
     empty : (xs : List ℕ) → xs ≡ replicate (length xs) 0 → xs ≡ padded (length xs) []
     empty xs e = e ∙ ap (λ (n : ℕ). replicate n 0) (sym (sub-zero (length xs)))
 
+-- the next LF does not stand before
 pub up-to : (text : Bytes) (at end : ℕ) → at ≤ length text → end ≡ nextAt lineFeed text at → at ≤ end
 up-to text at end within found = omega (arith, next-bounds lineFeed text at within .0)
 
@@ -124,6 +125,7 @@ pub record Reached (text : Bytes) (t : Memory) (line at end : ℕ) (s : State) (
   pub few : line ≤ at + 1
   pub lengths : SameLengths t u
 
+-- before the first line
 pub reached-start : {text : Bytes} {t : Memory} {end : ℕ} {s : State} → s ≡ start → end ≡ nextAt lineFeed text 0 → Reached text t 1 0 end s t
 reached-start {text} {t} e found =
     record {
