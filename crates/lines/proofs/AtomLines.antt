@@ -39,7 +39,21 @@ use Rattle.state.specs.Lined.{OfKind}
 use Rattle.lines.specs.AtomLines.{AtomNumbered, AtomLined, withNames}
 use Rattle.state.specs.declared.State.{State}
 use Rattle.state.specs.declared.Stepped.{Stepped}
-use Rattle.lines.proofs.LineLaws.{atomWritten, line-atom, line-no-atom, number-value, number-bad, number-given, none-given, keeps-passed, steps-next, line-refused, line-bad, written-length, put-exactly}
+use Rattle.lines.proofs.LineLaws.{
+  atomWritten,
+  line-atom,
+  line-no-atom,
+  number-value,
+  number-bad,
+  number-given,
+  none-given,
+  keeps-passed,
+  steps-next,
+  line-refused,
+  line-bad,
+  written-length,
+  put-exactly,
+}
 use Rattle.state.proofs.Order.{order-same}
 
 -- ---- the fields

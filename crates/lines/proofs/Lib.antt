@@ -1,6 +1,7 @@
 -- Laws of lines: those of any kind, and those of each kind.
 pub mod LineLaws
 mod AtomLines
+mod FormulaFields
 mod FormulaLines
 mod RowLines
 mod ClaimLines

@@ -43,7 +43,18 @@ use Rattle.state.specs.Lined.{OfKind, Lined}
 use Rattle.lines.specs.RowLines.{otherIn, withRows, RowSettled}
 use Rattle.state.specs.declared.State.{State}
 use Rattle.state.specs.declared.Stepped.{Stepped}
-use Rattle.lines.proofs.LineLaws.{rowWritten, line-row, keeps-refused, keeps-passed, steps-next, line-refused, written-length, put-exactly, ground, list-laid}
+use Rattle.lines.proofs.LineLaws.{
+  rowWritten,
+  line-row,
+  keeps-refused,
+  keeps-passed,
+  steps-next,
+  line-refused,
+  written-length,
+  put-exactly,
+  ground,
+  list-laid,
+}
 use Rattle.drafts.specs.Drafts.{Narrow, Laid, Drafted, principalNumber, readAs, rowRead, RowInto, isBad, wellOf, draftOf, RowLaid}
 use Rattle.drafts.specs.Storing.{recordOf, RowStored}
 use Rattle.drafts.specs.declared.RowRead.{RowRead}

@@ -15,7 +15,18 @@ use Rattle.format.specs.File.{Body, decodedAt, decoded}
 use Rattle.format.specs.Tests.{unknownFormula}
 use Rattle.sides.proofs.Sets.{any-iff, all-iff}
 use Rattle.tables.specs.Holding.{Formulas}
-use Rattle.shapes.specs.Shapes.{shapeIn, Shows, shows-falsum, shows-atom, shows-verum, shows-negated, shows-doubled, shows-conjunction, shows-disjunction, shows-other}
+use Rattle.shapes.specs.Shapes.{
+  shapeIn,
+  Shows,
+  shows-falsum,
+  shows-atom,
+  shows-verum,
+  shows-negated,
+  shows-doubled,
+  shows-conjunction,
+  shows-disjunction,
+  shows-other,
+}
 use Rattle.literals.specs.Literals.{atomBut, atomsBut, at, isAtom, isNegated, isFalsum, isVerum, isOther, someShape}
 use Rattle.shapes.specs.declared.Shape.{Shape}
 use Rattle.format.proofs.Decoded.{decoded-in}

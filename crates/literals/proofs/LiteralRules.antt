@@ -20,7 +20,19 @@ use Rattle.sides.specs.Members.{member}
 use Rattle.sides.specs.Deciding.{Decides}
 use Rattle.sides.proofs.Sets.{member-iff}
 use Rattle.sides.proofs.Deciding.{decides-no}
-use Rattle.shapes.specs.Shapes.{shapeIn, Unnamed, Shows, shows-falsum, shows-atom, shows-verum, shows-negated, shows-doubled, shows-conjunction, shows-disjunction, shows-other}
+use Rattle.shapes.specs.Shapes.{
+  shapeIn,
+  Unnamed,
+  Shows,
+  shows-falsum,
+  shows-atom,
+  shows-verum,
+  shows-negated,
+  shows-doubled,
+  shows-conjunction,
+  shows-disjunction,
+  shows-other,
+}
 use Rattle.shapes.specs.declared.Shape.{Shape}
 use Rattle.shapes.proofs.Shown.{shape-shows}
 use Rattle.literals.specs.Literals.{atomsBut, isAtom, isNegated, someShape, defaultBy, InitialIn}

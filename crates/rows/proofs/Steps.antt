@@ -228,7 +228,8 @@ module _ {b : Body} {q : Row} {formulas notes rows leftPool rightPool left right
         answer .decides b (decoded (b .nodes) right) (j .formulas-held) (j .atoms-known) (j .left-sided) (l₁-sided (omega arith)) (r₁-sided (omega arith))
         (l₂-sided (omega arith)) (r₂-sided (omega arith)))
 
-    pub schema-decided : (t : Schema) → entry (q .rule) ≡ schema t → (p count : ℕ) → p ≡ principalNumber (d .principal) → count ≡ d .premises .count → (r : Bool)
+    pub schema-decided : (t : Schema) → entry (q .rule) ≡ schema t → (p count : ℕ) → p ≡ principalNumber (d .principal)
+        → count ≡ d .premises .count → (r : Bool)
         → SchemaAnswer formulas (record { rule = d .rule; principal = p; count = count; row = left ⊣ right; one = l₁ ⊣ r₁; two = l₂ ⊣ r₂ }) r
         → Decides (RowInstance b q) r
     schema-decided t he p count hp hc r answer =

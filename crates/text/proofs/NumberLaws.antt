@@ -170,7 +170,8 @@ module _ (field : Bytes) (start : ℕ) (part : Bytes) (same : digitsAhead part �
       by-test : (t : Bool) → ltb (length (digitsAhead part)) (length part) ≡ t → numberOf part ≡ none
       by-test true l = cut (ltb-true _ _ l)
       by-test false l =
-          full (omega (arith, digits-length part, ltb-false (length (digitsAhead part)) (length part) l)) ∙ was-bad (numberOf (digitsAhead (drop start field))) _ e
+          full (omega (arith, digits-length part, ltb-false (length (digitsAhead part)) (length part) l))
+          ∙ was-bad (numberOf (digitsAhead (drop start field))) _ e
 
   module _ (n end : ℕ) (e : numberAt field start ≡ Entry.Value n end) where
     value-at : (numberOf (digitsAhead (drop start field)) ≡ some n) × (start + length (digitsAhead (drop start field)) ≡ end)

@@ -15,7 +15,19 @@ use Rattle.elk.specs.Instance.{domain, literal, excluded-middle, joined}
 use Rattle.elk.specs.Instance.{Choice as Chosen}
 use Rattle.format.specs.File.{Body, decodedAt}
 use Rattle.tables.specs.Holding.{Formulas}
-use Rattle.shapes.specs.Shapes.{shapeIn, Unnamed, Shows, shows-falsum, shows-atom, shows-verum, shows-negated, shows-doubled, shows-conjunction, shows-disjunction, shows-other}
+use Rattle.shapes.specs.Shapes.{
+  shapeIn,
+  Unnamed,
+  Shows,
+  shows-falsum,
+  shows-atom,
+  shows-verum,
+  shows-negated,
+  shows-doubled,
+  shows-conjunction,
+  shows-disjunction,
+  shows-other,
+}
 use Rattle.unstable.specs.Joins.{signOf, withSign, conjuncts, disjuncts, with, choiceIn, middleIn, middlesIn}
 use Rattle.shapes.specs.declared.Shape.{Shape}
 use Rattle.shapes.proofs.Shown.{shape-shows}

@@ -45,7 +45,8 @@ run-or-clear-requires c κs =
     let args = tested .before .before .before .before .before .before .before .args in
     let lent = lengths (five (args .names .now) (args .formulas .now) (args .rows .now) (args .left .now) (args .right .now)) in
     let same = clear-lengths _ lent (cleared .clear-all .ensures) in
-    (ap tooShort same ∙ sym (tested .too-short .ensures) ∙ c .before .before .before .before .before .if1 .left, clear-zeros _ lent (cleared .clear-all .ensures))
+    let long-enough = sym (tested .too-short .ensures) ∙ c .before .before .before .before .before .if1 .left in
+    (ap tooShort same ∙ long-enough, clear-zeros _ lent (cleared .clear-all .ensures))
 
 same-length-6 : tie.Need-same-length-6
 same-length-6 c = search needs

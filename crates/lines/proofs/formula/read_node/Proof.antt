@@ -2,7 +2,7 @@
 use borrow.Author.Needs.{needs}
 use mathlib.Core.Path.{sym, _∙_}
 use borrow.Author.Tests.{not-true, not-false}
-use Rattle.lines.proofs.FormulaLines.{no-word, bot-first, bot-second, bot-read, first-bad, one-operand-more, one-read, second-bad, two-read}
+use Rattle.lines.proofs.FormulaFields.{no-word, bot-first, bot-second, bot-read, first-bad, one-operand-more, one-read, second-bad, two-read}
 use Rattle.lines.proofs.formula.read_node.Statement.{statement}
 use Rattle.lines.proofs.formula.read_node.Tie as tie
 
