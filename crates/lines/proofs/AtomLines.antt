@@ -97,7 +97,7 @@ six-told false true e = let z : _≡_ {A = ℕ} 0 1 = cc in absurd (omega arith)
 -- the tests of an atom, by the state and the names table
 abbrev atomOf : Bytes → List ℕ → State → ℕ → Bytes → List Test
 atomOf text names s n name =
-    (4 when notNext (s .stage) 0 (s .counts .atoms) n)
+    (4 when notNext (s .stage) (rank in-atoms) (s .counts .atoms) n)
     ∷ (5 when leb mostAtoms (s .counts .atoms))
     ∷ (6 when not (isName name) || used text names s name)
     ∷ []
@@ -131,7 +131,7 @@ module _ (text : Bytes) (names : List ℕ) (s : State) (n : ℕ) (name : Bytes) 
       }
 
   abbrev out : Bool
-  out = notNext (s .stage) 0 (s .counts .atoms) n
+  out = notNext (s .stage) (rank in-atoms) (s .counts .atoms) n
 
   abbrev full : Bool
   full = leb mostAtoms (s .counts .atoms)
@@ -272,7 +272,7 @@ module _ {text line : Bytes} {start : ℕ} (at : NameAt text start line) (f : Fi
           })
 
   pub atom-stored : (number : ℕ)
-      → Stored text (withAtom f (nameStart p line) (nameIn line)) (passedBy s (countAtom (s .counts)) 0 number .state)
+      → Stored text (withAtom f (nameStart p line) (nameIn line)) (passedBy s (countAtom (s .counts)) (rank in-atoms) number .state)
       (withNames t (namesWith (t .names) s start line))
   atom-stored number =
       record {
@@ -324,7 +324,7 @@ module _ (text : Bytes) (start : ℕ) (line : Bytes) (number : ℕ) (s : State) 
       line-refused k (withNames t names) given (λ f p done good stored.
       step-atom f p line n (nameIn line) read ∙ number-given k _ p _ (tests-of t f done good stored) h)
 
-  atom-passed : NameAt text start line → k ≡ 0 → r ≡ passedBy s (countAtom (s .counts)) 0 number
+  atom-passed : NameAt text start line → k ≡ 0 → r ≡ passedBy s (countAtom (s .counts)) (rank in-atoms) number
       → AtomLined text start line number s r names (namesWith names s start line)
   atom-passed at zero-k given t =
       record {
@@ -350,10 +350,10 @@ module _ (text : Bytes) (start : ℕ) (line : Bytes) (number : ℕ) (s : State) 
       }
 
   -- the same, by the record as it is put
-  pub atom-put : NameAt text start line → k ≡ 0 → (counts : Counts) → counts ≡ countAtom (s .counts) → r ≡ passedBy s counts 0 number
+  pub atom-put : NameAt text start line → k ≡ 0 → (counts : Counts) → counts ≡ countAtom (s .counts) → r ≡ passedBy s counts (rank in-atoms) number
       → (a l : ℕ) → a ≡ startIn start line % 65536 → l ≡ length (nameIn line) % 65536
       → (after : List ℕ) → after ≡ written names (nameWidth * s .counts .atoms) (a ∷ l ∷ []) → AtomLined text start line number s r names after
   atom-put at zero-k counts more given a l starts long after put =
       subst (AtomLined text start line number s r names)
       (ap₂ (λ (x y : ℕ). written names (nameWidth * s .counts .atoms) (x ∷ y ∷ [])) (sym starts) (sym long) ∙ sym put)
-      (atom-passed at zero-k (given ∙ ap (λ (x : Counts). passedBy s x 0 number) more))
+      (atom-passed at zero-k (given ∙ ap (λ (x : Counts). passedBy s x (rank in-atoms) number) more))

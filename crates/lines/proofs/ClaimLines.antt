@@ -11,7 +11,7 @@ use Rattle.format.specs.Text.{Bytes, fieldsOf, listOf, strictlyRising}
 use Rattle.format.specs.File.{Row, Claim, claimed, File}
 use Rattle.format.specs.Line.{lineOf}
 use Rattle.format.specs.Tables.{mostOnSide}
-use Rattle.format.specs.Tests.{Test, _when_, first, unknownFormula, badSide, lastIs, claimTests}
+use Rattle.format.specs.Tests.{Test, _when_, rank, first, unknownFormula, badSide, lastIs, claimTests}
 use Rattle.format.specs.Judged.{settled, withClaim}
 use Rattle.format.specs.Good.{Good}
 use Rattle.format.proofs.Booleans as booleans
@@ -47,7 +47,7 @@ claimAt line xs ys = record { line = line; left = xs; right = ys }
 
 -- the state after a claim
 abbrev claimedBy : State → ℕ → Stepped
-claimedBy s line = record { number = 0; line = line; state = record { counts = s .counts; stage = 3; claim = line } }
+claimedBy s line = record { number = 0; line = line; state = record { counts = s .counts; stage = rank claimed; claim = line } }
 
 module _ {text : Bytes} {f : File} {s : State} {t : Memory} (stored : Stored text f s t) where
   formulas-held : s .counts .formulas ≡ length (f .body .nodes)

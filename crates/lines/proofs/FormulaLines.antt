@@ -13,7 +13,7 @@ use Rattle.format.specs.Text.{Bytes, fieldsOf, numberOf, is, any, sameList, _<$
 use Rattle.format.specs.File.{Node, Body, File, in-formulas}
 use Rattle.format.specs.Line.{formulaLine, lineOf, nodeOf}
 use Rattle.format.specs.Tables.{absent, joinAll, nodeRecord, nodeWidth, mostFormulas}
-use Rattle.format.specs.Tests.{_when_, outOfOrder, unknownFormula, refersAhead, sameNode, first, formulaTests}
+use Rattle.format.specs.Tests.{_when_, rank, outOfOrder, unknownFormula, refersAhead, sameNode, first, formulaTests}
 use Rattle.format.specs.Judged.{Place, refused, settled, step, withNode}
 use Rattle.format.specs.Good.{Good}
 use Rattle.format.proofs.GoodBodies.{Held, good-held}
@@ -123,14 +123,14 @@ abbrev firstOf : Bool → Bool → Bool → Option ℕ
 firstOf out over ahead = first ((4 when out) ∷ (5 when over) ∷ (7 when ahead) ∷ [])
 
 module _ (s : State) (n : ℕ) (node : Written) where
-  by-tests : (out over ahead : Bool) → notNext (s .stage) 1 (s .counts .formulas) n ≡ out → leb mostFormulas (s .counts .formulas) ≡ over
+  by-tests : (out over ahead : Bool) → notNext (s .stage) (rank in-formulas) (s .counts .formulas) n ≡ out → leb mostFormulas (s .counts .formulas) ≡ over
       → aheadIn node (s .counts) ≡ ahead → (k : ℕ) → numbered k ≡ firstOf out over ahead → FormulaNumbered s n node k
   by-tests out over ahead p q r k e = record { tests = e ∙ cc }
 
-  pub number-out : notNext (s .stage) 1 (s .counts .formulas) n ≡ true → FormulaNumbered s n node 4
+  pub number-out : notNext (s .stage) (rank in-formulas) (s .counts .formulas) n ≡ true → FormulaNumbered s n node 4
   number-out p = by-tests true _ _ p refl refl 4 refl
 
-  module _ (p : notNext (s .stage) 1 (s .counts .formulas) n ≡ false) where
+  module _ (p : notNext (s .stage) (rank in-formulas) (s .counts .formulas) n ≡ false) where
     pub number-full : mostFormulas ≤ s .counts .formulas → FormulaNumbered s n node 5
     number-full q = by-tests false true _ p (le-leb _ _ q) refl 5 refl
 
@@ -280,7 +280,8 @@ module _ (line : Bytes) (number : ℕ) (s : State) (formulas notes : List ℕ) (
 
     tests-here : numbered k ≡ first ((4 when out) ∷ (5 when over) ∷ (7 when ahead) ∷ [])
     tests-here =
-        let order : notNext (s .stage) 1 (s .counts .formulas) n ≡ out = order-same (f .stage) in-formulas (length nodes) n (stored .stage) held-count in
+        let order : notNext (s .stage) (rank in-formulas) (s .counts .formulas) n ≡ out =
+        order-same (f .stage) in-formulas (length nodes) n (stored .stage) held-count in
         let room : leb mostFormulas (s .counts .formulas) ≡ over = ap (leb mostFormulas) held-count in
         let earlier : aheadIn node (s .counts) ≡ ahead = ap₂ aheadIn (read .written-as) (stored .counts) ∙ ahead-of (f .body) m in
         numbers .tests ∙ cc
@@ -322,7 +323,7 @@ module _ (line : Bytes) (number : ℕ) (s : State) (formulas notes : List ℕ) (
             fits : nodeWidth * length nodes + length (nodeRecord m) ≤ length formulas
             fits = omega (arith, ap length (sym is-record), room, stored .full .formulas)
 
-        after : Stored text (withNode f m) (passedBy s (countFormula (s .counts)) 1 number .state) (withFormulas t formulas′ notes′)
+        after : Stored text (withNode f m) (passedBy s (countFormula (s .counts)) (rank in-formulas) number .state) (withFormulas t formulas′ notes′)
         after =
             let whole = stored .full in
             record {
@@ -367,18 +368,19 @@ module _ (line : Bytes) (number : ℕ) (s : State) (formulas notes : List ℕ) (
 
     pub formula-full : {r : Stepped} → entry ≡ Entry.Full → FormulaLined line number s r formulas notes formulas′ notes′
     formula-full is-full =
-        let out = notNext (s .stage) 1 (s .counts .formulas) n in
+        let out = notNext (s .stage) (rank in-formulas) (s .counts .formulas) n in
         let ahead-here = aheadIn node (s .counts) in
         let few = leb-false mostFormulas (s .counts .formulas) (numbered-late out _ ahead-here false k (numbers .tests) z .1) in
         absurd (omega (arith, few, entered-full (entered .entry) is-full))
 
-    pub formula-new : {r : Stepped} {counts : Counts} (i : ℕ) → entry ≡ Entry.New i → counts ≡ countFormula (s .counts) → r ≡ passedBy s counts 1 number
+    pub formula-new : {r : Stepped} {counts : Counts} (i : ℕ) → entry ≡ Entry.New i → counts ≡ countFormula (s .counts)
+        → r ≡ passedBy s counts (rank in-formulas) number
         → FormulaLined line number s r formulas notes formulas′ notes′
     formula-new {r} i is-new more-counts e text start t =
         let more = entered-new (entered .entry) i is-new in
         let zero-number : r .number ≡ 0 = ap (λ (x : Stepped). x .number) e in
-        let by-counts = ap (λ (x : Counts). passedBy s x 1 number .state) more-counts in
-        let state-is : passedBy s (countFormula (s .counts)) 1 number .state ≡ r .state = sym (ap (λ (x : Stepped). x .state) e ∙ by-counts) in
+        let by-counts = ap (λ (x : Counts). passedBy s x (rank in-formulas) number .state) more-counts in
+        let state-is : passedBy s (countFormula (s .counts)) (rank in-formulas) number .state ≡ r .state = sym (ap (λ (x : Stepped). x .state) e ∙ by-counts) in
         record {
           steps =
               λ f p done good stored size at-start at-line.

@@ -13,7 +13,7 @@ use Rattle.format.specs.Text.{Bytes, numberOf, principalOf, listOf, strictlyRis
 use Rattle.format.specs.File.{Row, in-rows, File, addRow}
 use Rattle.format.specs.Line.{rowLine, ruleOf, makeRow, lineOf}
 use Rattle.format.specs.Tables.{absent, orAbsent, leftPool, rightPool, rowWidth, rowRecord, rowRecords, mostBytes, mostOnSide, padded}
-use Rattle.format.specs.Tests.{_when_, first, outOfOrder, listed, unknownFormula, badSide, bodyTests, rowTests}
+use Rattle.format.specs.Tests.{_when_, rank, first, outOfOrder, listed, unknownFormula, badSide, bodyTests, rowTests}
 use Rattle.format.specs.Judged.{Place, next, settled, step, withRow}
 use Rattle.format.specs.Good.{Good}
 use Rattle.format.proofs.Booleans.{or-false, any-false}
@@ -322,7 +322,7 @@ module _ (text line : Bytes) (start number : ℕ) (s : State) {n : ℕ} {q : Row
           ∙ counts-row (f .body) q room
 
       pub row-stored : {counts : Counts} → counts ≡ countRow (s .counts) (d .left .count) (d .right .count)
-          → Stored text (withRow f q) (passedBy s counts 2 number .state) (withRows t formulas notes rows′ left′ right′)
+          → Stored text (withRow f q) (passedBy s counts (rank in-rows) number .state) (withRows t formulas notes rows′ left′ right′)
       row-stored e =
           record {
             full =
@@ -388,7 +388,7 @@ module _ (row : RowRead) (number : ℕ) (above l r formulas notes : List ℕ) (s
         }
 
     pub settled-stored : k ≡ 0 → (rows′ left′ right′ : List ℕ) → RowStored d (s .counts) l r rows left right rows′ left′ right′
-        → (counts : Counts) → counts ≡ countRow (s .counts) (d .left .count) (d .right .count) → stepped ≡ passedBy s counts 2 number
+        → (counts : Counts) → counts ≡ countRow (s .counts) (d .left .count) (d .right .count) → stepped ≡ passedBy s counts (rank in-rows) number
         → RowSettled row number above l r formulas notes s stepped rows left right rows′ left′ right′
     settled-stored passed rows′ left′ right′ w counts is-counts given =
         record {

@@ -6,7 +6,8 @@ use mathlib.Core.List.{List, [], _∷_}
 use mathlib.Core.Option.{some}
 use Rattle.format.specs.Text.{Bytes}
 use Rattle.format.specs.Line.{claimLine, lineOf}
-use Rattle.format.specs.Tests.{Test, _when_}
+use Rattle.format.specs.File.{claimed}
+use Rattle.format.specs.Tests.{Test, _when_, rank}
 use Rattle.text.specs.declared.lists.Listed.{Listed}
 use Rattle.early.specs.Early.{pastOf, badOf}
 use Rattle.state.specs.State.{outOfTurn, Memory, Keeps}
@@ -18,7 +19,7 @@ use Rattle.drafts.specs.Drafts.{Laid}
 -- the numbers 4, 7 and 9
 abbrev pub claimOf : Listed → Listed → State → List Test
 claimOf left right s =
-    (4 when outOfTurn (s .stage) 3)
+    (4 when outOfTurn (s .stage) (rank claimed))
     ∷ (7 when pastOf left (s .counts .formulas) || pastOf right (s .counts .formulas))
     ∷ (9 when badOf left || badOf right)
     ∷ []

@@ -8,9 +8,9 @@ use mathlib.Core.Option.{Option, none, some}
 use lib.Dec.{eqb, leb}
 use lib.ListN.{getD}
 use Rattle.format.specs.Text.{Bytes}
-use Rattle.format.specs.File.{Node}
+use Rattle.format.specs.File.{Node, in-formulas}
 use Rattle.format.specs.Tables.{nodeRecord, mostFormulas}
-use Rattle.format.specs.Tests.{Test, _when_, first}
+use Rattle.format.specs.Tests.{Test, _when_, rank, first}
 use Rattle.counts.specs.declared.Counts.{Counts}
 use Rattle.tables.specs.declared.records.NodeRecord.{NodeRecord}
 use Rattle.early.specs.Early.{numbered}
@@ -39,7 +39,10 @@ aheadIn node c =
 -- the numbers 4, 5 and 7, by the formula as it was read and the state
 abbrev pub formulaTestsBy : State → ℕ → Written → List Test
 formulaTestsBy s n node =
-    (4 when notNext (s .stage) 1 (s .counts .formulas) n) ∷ (5 when leb mostFormulas (s .counts .formulas)) ∷ (7 when aheadIn node (s .counts)) ∷ []
+    (4 when notNext (s .stage) (rank in-formulas) (s .counts .formulas) n)
+    ∷ (5 when leb mostFormulas (s .counts .formulas))
+    ∷ (7 when aheadIn node (s .counts))
+    ∷ []
 
 pub record FormulaNumbered (s : State) (n : ℕ) (node : Written) (k : ℕ) : Type 0 where
   pub tests : numbered k ≡ first (formulaTestsBy s n node)

@@ -5,7 +5,8 @@ use mathlib.Core.Bool.{Bool, true}
 use mathlib.Core.List.{List}
 use mathlib.Core.Option.{some}
 use Rattle.format.specs.Text.{Bytes}
-use Rattle.format.specs.File.{Row}
+use Rattle.format.specs.File.{Row, in-rows}
+use Rattle.format.specs.Tests.{rank}
 use Rattle.format.specs.Line.{rowLine, lineOf}
 use Rattle.text.specs.declared.numbers.Number.{Number}
 use Rattle.drafts.specs.Drafts.{RowLaid}
@@ -17,7 +18,7 @@ use Rattle.state.specs.declared.Stepped.{Stepped}
 
 -- number 4
 abbrev pub otherIn : Number → State → Bool
-otherIn (Number.Value n) s = notNext (s .stage) 2 (s .counts .rows) n
+otherIn (Number.Value n) s = notNext (s .stage) (rank in-rows) (s .counts .rows) n
 otherIn Number.Bad s = true
 
 -- the contents with other formulas, words, rows and pools

@@ -4,22 +4,22 @@ use mathlib.Core.Path.{_≡_, refl, sym, ap, ap₂, _∙_}
 use mathlib.Core.Bool.{Bool, true, false, not, _&&_, _||_}
 use lib.Dec.{eqb, ltb, leb}
 use borrow.Author.Tests.{le-leb, lt-leb, ltb-true, ltb-false}
-use Rattle.format.specs.File.{Stage}
+use Rattle.format.specs.File.{Stage, claimed}
 use Rattle.format.specs.Tests.{rank, mayFollow, outOfOrder}
 use Rattle.state.specs.State.{outOfTurn, notNext}
 
 module _ (stage coming : ℕ) where
   pub turn-back : coming < stage → true ≡ outOfTurn stage coming
   unfolding outOfTurn
-  turn-back h = sym (ap (λ (b : Bool). not (b && ltb stage 3)) (lt-leb stage coming h))
+  turn-back h = sym (ap (λ (b : Bool). not (b && ltb stage (rank claimed))) (lt-leb stage coming h))
 
-  pub turn-last : stage ≤ coming → leb 3 stage ≡ outOfTurn stage coming
+  pub turn-last : stage ≤ coming → leb (rank claimed) stage ≡ outOfTurn stage coming
   unfolding outOfTurn
-  turn-last h = sym (ap (λ (b : Bool). not (b && ltb stage 3)) (le-leb stage coming h) ∙ by-test (ltb stage 3) refl)
+  turn-last h = sym (ap (λ (b : Bool). not (b && ltb stage (rank claimed))) (le-leb stage coming h) ∙ by-test (ltb stage (rank claimed)) refl)
     where
-      by-test : (b : Bool) → ltb stage 3 ≡ b → not b ≡ leb 3 stage
-      by-test true e = sym (lt-leb 3 stage (ltb-true stage 3 e))
-      by-test false e = sym (le-leb 3 stage (ltb-false stage 3 e))
+      by-test : (b : Bool) → ltb stage (rank claimed) ≡ b → not b ≡ leb (rank claimed) stage
+      by-test true e = sym (lt-leb (rank claimed) stage (ltb-true stage (rank claimed) e))
+      by-test false e = sym (le-leb (rank claimed) stage (ltb-false stage (rank claimed) e))
 
   module _ (held number : ℕ) where
     pub order-turn : outOfTurn stage coming ≡ true → true ≡ notNext stage coming held number

@@ -8,7 +8,7 @@ use lib.Dec.{eqb, ltb, leb}
 use lib.ListN.{length}
 use Rattle.equilibrium.specs.Meaning.{_∈_}
 use Rattle.format.specs.Text.{Bytes}
-use Rattle.format.specs.File.{Name, Claim, File}
+use Rattle.format.specs.File.{Name, Claim, in-atoms, claimed, File}
 use Rattle.format.specs.Tables.{padded, joinAll, nameRecord, nodeRecord, rowRecords, leftPool, rightPool, mostFormulas, least}
 use Rattle.format.specs.Tests.{rank}
 use Rattle.format.specs.Judged.{Outcome, next, refused}
@@ -20,7 +20,7 @@ use Rattle.state.specs.declared.State.{State}
 use Rattle.state.specs.declared.Stepped.{Stepped}
 
 abbrev pub start : State
-start = record { counts = noCounts; stage = 0; claim = 0 }
+start = record { counts = noCounts; stage = rank in-atoms; claim = 0 }
 
 -- a refusal: the number, the line that it belongs to, and the state as it was
 abbrev pub refusedBy : State → ℕ → ℕ → Stepped
@@ -32,7 +32,7 @@ passedBy s counts stage line = record { number = 0; line = line; state = record 
 
 -- a line of the stage `coming` may not follow, by the numbers of the stages
 unfoldable pub outOfTurn : ℕ → ℕ → Bool
-outOfTurn stage coming = not (leb stage coming && ltb stage 3)
+outOfTurn stage coming = not (leb stage coming && ltb stage (rank claimed))
 
 -- the same, or its number is not the next one
 unfoldable pub notNext : ℕ → ℕ → ℕ → ℕ → Bool
