@@ -1,8 +1,8 @@
 -- The six fields of a row, read together. Assumes nothing.
 use Prim.Native.Nat.{ℕ}
-use mathlib.Core.Path.{_≡_, ap, _∙_}
+use mathlib.Core.Path.{_≡_, subst}
 use mathlib.Core.List.{List}
-use Rattle.format.specs.Text.{Bytes, listOf}
+use Rattle.format.specs.Text.{Bytes}
 use Rattle.format.specs.Line.{ruleOf}
 use Rattle.text.specs.Numbers.{NumberRead, PrincipalRead}
 use Rattle.text.specs.Lists.{ListedInto}
@@ -19,10 +19,10 @@ pub row-into : {field : ℕ → Bytes} {one two three four five six : Bytes} {pr
     → ListedInto four premises premises′ a → ListedInto five left left′ b → ListedInto six right right′ d
     → RowInto field premises left right premises′ left′ right′
     (record { number = number; rule = rule; principal = principal; premises = a; left = b; right = d })
-row-into e1 e2 e3 e4 e5 e6 n r p x y z =
+row-into {premises = premises} {left = left} {right = right} {premises′} {left′} {right′} {a = a} {b = b} {d = d} e1 e2 e3 e4 e5 e6 n r p x y z =
     record {
       answer = cc (n .answer, p .answer, x .answer, y .answer, z .answer);
-      premises-stored = λ xs h. x .stored xs (ap listOf e4 ∙ h);
-      left-stored = λ xs h. y .stored xs (ap listOf e5 ∙ h);
-      right-stored = λ xs h. z .stored xs (ap listOf e6 ∙ h);
+      premises-listed = subst (λ (field : Bytes). ListedInto field premises premises′ a) e4 x;
+      left-listed = subst (λ (field : Bytes). ListedInto field left left′ b) e5 y;
+      right-listed = subst (λ (field : Bytes). ListedInto field right right′ d) e6 z;
     }

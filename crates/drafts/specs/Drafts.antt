@@ -14,7 +14,7 @@ use Rattle.format.specs.File.{Row}
 use Rattle.format.specs.Line.{ruleOf}
 use Rattle.format.specs.Tables.{absent, mostOnSide}
 use Rattle.text.specs.Numbers.{numberAs, principalAs}
-use Rattle.text.specs.Lists.{listedAs, laidOver}
+use Rattle.text.specs.Lists.{listedAs, laidOver, ListedInto}
 use Rattle.keywords.specs.Words.{noRule, ruleCode}
 use Rattle.text.specs.declared.numbers.Number.{Number}
 use Rattle.text.specs.declared.numbers.Optional.{Optional}
@@ -38,16 +38,15 @@ readAs number rule principal premises left right =
 abbrev pub rowRead : ℕ → Row → RowRead
 rowRead n q = readAs (some n) (some (q .rule)) (some (q .principal)) (some (q .premises)) (some (q .left)) (some (q .right))
 
--- what is read of the fields of a line, by their places, and the tables that were lent for its lists: each holds the list that is
--- well written
+-- what is read of the fields of a line, by their places, and what is stored of its lists in the tables that were lent for them
 pub record RowInto (field : ℕ → Bytes) (premises left right premises′ left′ right′ : List ℕ) (r : RowRead) : Type 0 where
   pub answer :
       r
       ≡ readAs (numberOf (field 1)) (ruleOf (field 2)) (principalOf (field 3)) (listOf (field 4))
       (listOf (field 5)) (listOf (field 6))
-  pub premises-stored : (xs : List ℕ) → listOf (field 4) ≡ some xs → premises′ ≡ laidOver xs premises
-  pub left-stored : (xs : List ℕ) → listOf (field 5) ≡ some xs → left′ ≡ laidOver xs left
-  pub right-stored : (xs : List ℕ) → listOf (field 6) ≡ some xs → right′ ≡ laidOver xs right
+  pub premises-listed : ListedInto (field 4) premises premises′ (r .premises)
+  pub left-listed : ListedInto (field 5) left left′ (r .left)
+  pub right-listed : ListedInto (field 6) right right′ (r .right)
 
 abbrev pub isNumber : Number → Bool
 isNumber (Number.Value n) = true

@@ -28,7 +28,8 @@ pub struct RowRead {
     pub right: Listed,
 }
 
-// The fields of a row, by its line as it was taken into fields. The first premises and the sides' entries are stored as far as there is room for them.
+// The fields of a row, by its line as it was taken into fields. The first premises and the sides' entries are stored as far as
+// there is room for them.
 pub fn read_row(
     line: &[u8],
     fields: Fields,

@@ -165,9 +165,9 @@ module _ (line : Bytes) (kind : OfKind "N" line) (fields : Fields) (fielded : Fi
       let laid : RowLaid (w .own) (w .row) row above′ l′ r′ =
       record {
         read = read;
-        premises = i .premises-stored (w .row .premises) (w .premises-listed) ∙ ap (laidOver (w .row .premises)) lent;
-        left-laid = list-laid l (ap (λ (z : RowRead). z .left) read) (i .left-stored (w .row .left) (w .left-listed)) left-room;
-        right-laid = list-laid r (ap (λ (z : RowRead). z .right) read) (i .right-stored (w .row .right) (w .right-listed)) right-room;
+        premises = i .premises-listed .stored (w .row .premises) (w .premises-listed) ∙ ap (laidOver (w .row .premises)) lent;
+        left-laid = list-laid l (ap (λ (z : RowRead). z .left) read) (i .left-listed .stored (w .row .left) (w .left-listed)) left-room;
+        right-laid = list-laid r (ap (λ (z : RowRead). z .right) read) (i .right-listed .stored (w .row .right) (w .right-listed)) right-room;
       } in
       (w .own, w .row, is-row ∙ w .line, laid)
 

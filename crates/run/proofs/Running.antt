@@ -161,7 +161,12 @@ module _ {text : Bytes} {t : Memory} {line at end : ℕ} {s : State} {u : Memory
             too-long = λ long. absurd (omega arith);
             runs =
                 λ few fresh.
-                record { passed = λ z. r .running fresh; all = λ z. omega (arith, r .found); refused = λ ne. absurd (ne refl) };
+                record {
+                  passed = λ z. r .running fresh;
+                  all = λ z. omega (arith, r .found);
+                  refused = λ ne. absurd (ne refl);
+                  stopped = λ ne. absurd (ne refl);
+                };
             within = r .within;
             lengths = r .lengths;
           }
@@ -198,6 +203,11 @@ module _ {text : Bytes} {t : Memory} {line at end : ℕ} {s : State} {u : Memory
         → ran ≡ record { number = stepped .number; line = stepped .line; at = at; state = stepped .state } → RunOver text ran t v
     run-refused ne e = subst (λ (x : Ran). RunOver text x t v) (sym e) over
       where
+        kept : Running text line at s u → Running text line at (stepped .state) v
+        kept running =
+            let same = steps .inside (up-to text at end (r .within) (r .found)) (omega arith) .keeps .kept ne in
+            subst (Running text line at (stepped .state)) (sym (same .0)) (subst (λ (z : State). Running text line at z u) (sym (same .1)) running)
+
         over : RunOver text (record { number = stepped .number; line = stepped .line; at = at; state = stepped .state }) t v
         over =
             record {
@@ -208,6 +218,7 @@ module _ {text : Bytes} {t : Memory} {line at end : ℕ} {s : State} {u : Memory
                     passed = λ z. absurd (ne z);
                     all = λ z. absurd (ne z);
                     refused = running-refused text line at s u (r .within) (r .running fresh) end short (r .found) inside stepped v steps;
+                    stopped = λ more. (line, kept (r .running fresh));
                   };
               within = r .within;
               lengths = same;

@@ -27,11 +27,13 @@ pub record Running (text : Bytes) (line at : ℕ) (s : State) (t : Memory) : Typ
   pub answer : answerFrom top text noFile ≡ answerFrom (place line at) (drop at text) file
   pub outcome : beginning text ≡ runFrom (place line at) (drop at text) file
 
--- All complete lines have passed, and the run stands after the last one; or the text is refused with a line's number.
+-- All complete lines have passed, and the run stands after the last one; or the text is refused with a line's number, and the run
+-- stands before the line at which that was seen.
 pub record Runs (text : Bytes) (r : Ran) (t : Memory) : Type 0 where
   pub passed : r .number ≡ 0 → Running text (r .line) (r .at) (r .state) t
   pub all : r .number ≡ 0 → length text ≤ nextAt lineFeed text (r .at)
   pub refused : (r .number ≡ 0 → ⊥) → answerFrom top text noFile ≡ turnedDown (r .number) (r .line)
+  pub stopped : (r .number ≡ 0 → ⊥) → (line : ℕ) × Running text line (r .at) (r .state) t
 
 -- tables of full length that hold nothing, with nothing known of any formula
 pub record Fresh (t : Memory) : Type 0 where
