@@ -1,0 +1,3 @@
+pub mod Writing
+mod Decimals
+mod Zeros

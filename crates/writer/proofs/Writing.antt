@@ -1,0 +1,114 @@
+-- What a writer leaves, by whether there is room; writers one after the other; words written in the rest of a lent text.
+-- Assumes nothing.
+use Prim.Native.Nat.{ℕ, _+_, _-_, _≤_, _<_}
+use native.Mathlib.Omega.{arith}
+use mathlib.Core.Bool.{Bool, true, false, cond, false≢true}
+use mathlib.Core.List.{List, [], _∷_, _++_, append-assoc}
+use mathlib.Core.Path.{_≡_, refl, sym, ap, subst, _∙_}
+use borrow.Author.Tests.{le-leb, lt-leb, leb-true, leb-false}
+use lib.Dec.{leb}
+use lib.ListN.{length, take, drop, length-append}
+use lib.Seq.{take-at, length-take-le}
+use Rattle.format.specs.Text.{Bytes}
+use Rattle.writer.specs.declared.Written.{Written}
+use Rattle.writer.specs.Writing.{after, Writes}
+
+module _ (space at count : ℕ) where
+  reach : Bool → Written
+  reach b = cond b (Written.To (at + count)) Written.NoRoom
+
+  pub after-fits : at + count ≤ space → after space (Written.To at) count ≡ Written.To (at + count)
+  unfolding reach
+  after-fits h = ap reach (le-leb (at + count) space h)
+
+  pub after-full : space < at + count → after space (Written.To at) count ≡ Written.NoRoom
+  unfolding reach
+  after-full h = ap reach (lt-leb (at + count) space h)
+
+-- so many bytes and then so many are so many together
+after-after : (space : ℕ) (w : Written) (m n : ℕ) → after space (after space w m) n ≡ after space w (m + n)
+after-after space Written.NoRoom m n = refl
+after-after space (Written.To at) m n = by (leb (at + m) space) refl
+  where
+    together : at + m + n ≡ at + (m + n)
+    together = omega arith
+
+    by : (fits : Bool) → leb (at + m) space ≡ fits → after space (after space (Written.To at) m) n ≡ after space (Written.To at) (m + n)
+    by false e =
+        let full = leb-false (at + m) space e in
+        ap (λ (w : Written). after space w n) (after-full space at m full) ∙ sym (after-full space at (m + n) (omega (arith, full)))
+    by true e =
+        ap (λ (w : Written). after space w n) (after-fits space at m (leb-true (at + m) space e))
+        ∙ ap (λ (k : ℕ). cond (leb k space) (Written.To k) Written.NoRoom) together
+
+-- words in the place of as many bytes of a text
+pub placed-writes : (words text text′ : Bytes) (at : ℕ) → at + length words ≤ length text
+    → text′ ≡ take at text ++ words ++ drop (at + length words) text → length text′ ≡ length text
+    → Writes words text (Written.To at) text′ (Written.To (at + length words))
+placed-writes words text text′ at h e l =
+    record { length-kept = l; reached = sym (after-fits (length text) at (length words) h); in-front = front }
+  where
+    long : length (take at text ++ words) ≡ at + length words
+    long = length-append (take at text) words ∙ ap (λ (k : ℕ). k + length words) (length-take-le at text (omega arith))
+
+    front : (a : ℕ) → Written.To at ≡ Written.To a → a + length words ≤ length text → take (a + length words) text′ ≡ take a text ++ words
+    front a same _ =
+        subst (λ (k : ℕ). take (k + length words) text′ ≡ take k text ++ words) (cc same)
+        (ap (take (at + length words)) e ∙ take-at (take at text ++ words) (drop (at + length words) text) (at + length words) long)
+
+-- no room for words
+pub full-writes : (words text : Bytes) (at : ℕ) → length text < at + length words → Writes words text (Written.To at) text Written.NoRoom
+full-writes words text at h =
+    record { length-kept = refl; reached = sym (after-full (length text) at (length words) h); in-front = front }
+  where
+    front : (a : ℕ) → Written.To at ≡ Written.To a → a + length words ≤ length text → take (a + length words) text ≡ take a text ++ words
+    front a same fits = let e : at ≡ a = cc same in absurd (omega (arith, e, fits))
+
+abbrev reaches : Written → Bool
+reaches (Written.To at) = true
+reaches Written.NoRoom = false
+
+-- no room before
+pub none-writes : (words text : Bytes) → Writes words text Written.NoRoom text Written.NoRoom
+none-writes words text = record { length-kept = refl; reached = refl; in-front = λ a e h. absurd (false≢true (ap reaches e)) }
+
+module _ {words text text′ : Bytes} {w r : Written} where
+  -- what was written before, and the words, by other names
+  pub writes-from : {v : Written} → w ≡ v → Writes words text v text′ r → Writes words text w text′ r
+  writes-from e h = subst (λ (s : Written). Writes words text s text′ r) (sym e) h
+
+  pub writes-as : {others : Bytes} → others ≡ words → Writes words text w text′ r → Writes others text w text′ r
+  writes-as e h = subst (λ (ws : Bytes). Writes ws text w text′ r) (sym e) h
+
+-- words, and then more words
+pub writes-then : {first second text text₁ text₂ : Bytes} {w w₁ w₂ : Written}
+    → Writes first text w text₁ w₁ → Writes second text₁ w₁ text₂ w₂ → Writes (first ++ second) text w text₂ w₂
+writes-then {first} {second} {text} {text₁} {text₂} {w} {w₁} {w₂} p q =
+    record { length-kept = q .length-kept ∙ p .length-kept; reached = far; in-front = front }
+  where
+    both : length (first ++ second) ≡ length first + length second
+    both = length-append first second
+
+    far : w₂ ≡ after (length text) w (length (first ++ second))
+    far =
+        q .reached
+        ∙ ap (λ (n : ℕ). after n w₁ (length second)) (p .length-kept)
+        ∙ ap (λ (v : Written). after (length text) v (length second)) (p .reached)
+        ∙ after-after (length text) w (length first) (length second)
+        ∙ ap (after (length text) w) (sym both)
+
+    front : (a : ℕ) → w ≡ Written.To a → a + length (first ++ second) ≤ length text
+        → take (a + length (first ++ second)) text₂ ≡ take a text ++ (first ++ second)
+    front a e h =
+        ap (λ (k : ℕ). take k text₂) far-off
+        ∙ q .in-front (a + length first) at-second (omega (arith, both, p .length-kept, h))
+        ∙ ap (λ (t : Bytes). t ++ second) (p .in-front a e (omega (arith, both, h)))
+        ∙ append-assoc (take a text) first second
+      where
+        far-off : a + length (first ++ second) ≡ a + length first + length second
+        far-off = omega (arith, both)
+
+        at-second : w₁ ≡ Written.To (a + length first)
+        at-second =
+            p .reached ∙ ap (λ (v : Written). after (length text) v (length first)) e
+            ∙ after-fits (length text) a (length first) (omega (arith, both, h))
