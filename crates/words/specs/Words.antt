@@ -1,0 +1,85 @@
+-- The words of a formula, of a row and of a file, as bytes (paper 02, M-100). Each row is one sentence, which ends in LF.
+use Prim.Native.Nat.{ℕ, _+_}
+use Prim.Native.String.{String}
+use mathlib.Core.List.{List, [], _∷_, _++_}
+use mathlib.Core.Option.{Option, none, some}
+use Rattle.elk.specs.Sequent.{Kind, elk, refutation}
+use Rattle.elk.specs.Rules.{entry, kindOf}
+use Rattle.format.specs.Text.{Bytes, bytes}
+use Rattle.format.specs.Written.{decimal}
+use Rattle.format.specs.Judged.{beginning}
+use Rattle.words.specs.Told.{Named, falsum, atom, neg, conj, disj, imp, Told, toldIn}
+use Rattle.words.specs.Meanings.{meaningOf}
+
+-- parts, one behind the other
+abbrev pub joined : List Bytes → Bytes
+joined [] = []
+joined (p ∷ ps) = p ++ joined ps
+
+-- full brackets, and names in quotes
+unfoldable pub formulaWords : Named → Bytes
+formulaWords falsum = bytes "contradiction"
+formulaWords (atom name) = joined (bytes "\"" ∷ name ∷ bytes "\"" ∷ [])
+formulaWords (neg A) = joined (bytes "not " ∷ formulaWords A ∷ [])
+formulaWords (conj A B) = joined (bytes "(" ∷ formulaWords A ∷ bytes " and " ∷ formulaWords B ∷ bytes ")" ∷ [])
+formulaWords (disj A B) = joined (bytes "(" ∷ formulaWords A ∷ bytes " or " ∷ formulaWords B ∷ bytes ")" ∷ [])
+formulaWords (imp A B) = joined (bytes "(if " ∷ formulaWords A ∷ bytes " then " ∷ formulaWords B ∷ bytes ")" ∷ [])
+
+-- the further ones of a list, each after the words between
+unfoldable pub items : {X : Type 0} → String → (X → Bytes) → List X → Bytes
+items between word [] = []
+items between word (x ∷ xs) = bytes between ++ (word x ++ items between word xs)
+
+-- the words of a list: an opening and then the words of each, with others between; words of its own where there is none
+unfoldable pub listing : {X : Type 0} → (empty opening between : String) → (X → Bytes) → List X → Bytes
+listing empty opening between word [] = bytes empty
+listing empty opening between word (x ∷ xs) = bytes opening ++ (word x ++ items between word xs)
+
+-- the principal formula
+unfoldable pub principalWords : Option Named → Bytes
+principalWords none = bytes "about no single formula"
+principalWords (some A) = joined (bytes "about the formula " ∷ formulaWords A ∷ [])
+
+-- the premises, by their row numbers
+abbrev pub premiseWords : List ℕ → Bytes
+premiseWords = listing "from no other row" "from row " " and row " decimal
+
+-- the left side, as each calculus means it
+abbrev pub leftWords : Kind → List Named → Bytes
+leftWords elk = listing "if nothing is given" "if these are all that is given: " ", " formulaWords
+leftWords refutation =
+    listing "there is a counter-case in here-and-there where nothing need hold"
+    "there is a counter-case in here-and-there where all of these hold: " ", " formulaWords
+
+-- the right side
+abbrev pub rightWords : Kind → List Named → Bytes
+rightWords elk =
+    listing "then there is no equilibrium model" "then in every equilibrium model at least one of these alternatives holds: " ", " formulaWords
+rightWords refutation = listing "and nothing need fail" "and none of these holds: " ", " formulaWords
+
+-- the calculus of a row
+abbrev pub kindIn : Told → Kind
+kindIn t = kindOf (entry (t .rule))
+
+-- row number, the rule's meaning, principal, premises, left, right
+abbrev pub pieces : ℕ → Told → List Bytes
+pieces n t =
+    bytes "Row " ∷ decimal n ∷ bytes ": " ∷ bytes (meaningOf (t .rule))
+    ∷ bytes "; " ∷ principalWords (t .principal)
+    ∷ bytes "; " ∷ premiseWords (t .premises)
+    ∷ bytes "; " ∷ leftWords (kindIn t) (t .left)
+    ∷ bytes "; " ∷ rightWords (kindIn t) (t .right)
+    ∷ bytes ".\n" ∷ []
+
+-- the sentence of row n
+unfoldable pub sentence : ℕ → Told → Bytes
+sentence n t = joined (pieces n t)
+
+-- the sentences of rows that are numbered from n on
+unfoldable pub sentences : ℕ → List Told → Bytes
+sentences n [] = []
+sentences n (t ∷ ts) = sentence n t ++ sentences (n + 1) ts
+
+-- the words of a text
+abbrev pub wordsIn : Bytes → Bytes
+wordsIn text = sentences 0 (toldIn (beginning text))
