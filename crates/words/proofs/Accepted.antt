@@ -1,6 +1,6 @@
 -- The rows of every accepted text are told by its words: the theorem of M-100. And no byte of its words is zero.
 use Prim.Native.Nat.{ℕ, zero, suc}
-use mathlib.Core.Path.{_≡_, refl, sym, ap, subst, _∙_}
+use mathlib.Core.Path.{_≡_, refl, sym, subst}
 use mathlib.Core.Bool.{true, _&&_}
 use mathlib.Core.List.{List, [], _∷_, map, List·Memᴰ·head, List·Memᴰ·tail}
 use mathlib.Core.Option.{Option, none, some}
@@ -9,8 +9,8 @@ use lib.Dec.{leb}
 use lib.ListN.{length, getD}
 use Rattle.equilibrium.specs.Meaning.{_∈_}
 use Rattle.equilibrium.specs.Formula.{Formula}
-use Rattle.format.specs.Text.{Bytes, all, isName, startsWithLetter, linesOf, _<$>_}
-use Rattle.format.specs.File.{Node, Row, Body, File, decodedAt}
+use Rattle.format.specs.Text.{Bytes, all, isName, startsWithLetter, _<$>_}
+use Rattle.format.specs.File.{Row, Body, File, decodedAt}
 use Rattle.format.specs.Tables.{Lent}
 use Rattle.format.specs.Judged.{Outcome, beginning, judged, accepted}
 use Rattle.format.specs.Good.{GoodBody, atoms, formula, row, Good}
@@ -18,11 +18,11 @@ use Rattle.format.specs.Written.{Each, Small}
 use Rattle.format.proofs.Booleans.{and-true}
 use Rattle.format.proofs.Tested.{passed-row}
 use Rattle.format.proofs.GoodBodies.{good-held}
-use Rattle.format.proofs.Accepted.{Accepted, accepted-file, accepted-good}
+use Rattle.format.proofs.Accepted.{accepted-file, accepted-good}
 use Rattle.format.proofs.Joined.{each-append}
 use Rattle.format.proofs.WrittenDocuments.{row-writable}
-use Rattle.words.specs.Told.{Named, named, namesOf, namedAt, Told, toldRow, toldFile, toldIn}
-use Rattle.words.specs.Words.{wordsIn, sentences}
+use Rattle.words.specs.Told.{Named, named, namesOf, namedAt, toldRow, toldFile, toldIn}
+use Rattle.words.specs.Words.{wordsIn}
 use Rattle.words.proofs.Formulas.{nameByte, Spelled}
 use Rattle.words.proofs.Sentences.{Tellable, told-rows}
 use Rattle.words.proofs.NoZero.{NoZero, words-shown}

@@ -10,3 +10,5 @@ pub mod Sentences
 pub mod NoZero
 pub mod Accepted
 pub mod Call
+pub mod LentText
+pub mod Examples

@@ -9,7 +9,6 @@ use lib.ListN.{getD}
 use Rattle.format.specs.Text.{Bytes, bytes, any, isDigit, numberOf}
 use Rattle.format.specs.Written.{Each, decimal, Small}
 use Rattle.format.proofs.WrittenNumbers.{decimal-digits, all-true, number-back}
-use Rattle.words.specs.Told.{Named}
 use Rattle.words.specs.Words.{formulaWords, items, listing}
 use Rattle.words.proofs.Reading.{all-pass, span, apart, differ}
 use Rattle.words.proofs.Formulas.{Spelled, told-formula}
