@@ -13,7 +13,7 @@ use Rattle.words.specs.Told.{Named, falsum, atom, neg, conj, imp, Told, 
 use Rattle.words.specs.Meanings.{meaningOf}
 use Rattle.words.specs.Words.{formulaWords, items, listing, principalWords, joined, sentence, sentences}
 
--- each row's sentence without the meaning of its rule
+-- one sentence a row
 pub whole-words : sentences 0 (toldFile (fileOf whole))
     ≡ joined (
     bytes "Row 0: " ∷ bytes (meaningOf same)
@@ -52,7 +52,7 @@ pub refuted-words : sentence 1 (rightRow xandr1 (conj p p))
 unfolding decimal digits meaningOf formulaWords items listing principalWords sentence
 refuted-words = refl
 
--- two rows with their words alike
+-- two rows to be told apart
 pub record Pair : Type 0 where
   pub one : Told
   pub other : Told

@@ -10,7 +10,8 @@ use Rattle.format.specs.Text.{Bytes, bytes, isDigit}
 use Rattle.format.specs.Written.{Each, decimal, Small}
 use Rattle.format.proofs.WrittenNumbers.{decimal-digits, all-true}
 use Rattle.words.specs.Told.{Named, falsum, atom, neg, conj, disj, imp, Told}
-use Rattle.words.specs.Words.{formulaWords, items, listing, principalWords, premiseWords, leftWords, rightWords, kindIn, joined, pieces, sentence, sentences}
+use Rattle.words.specs.Words.{formulaWords, items, listing, principalWords, premiseWords, leftWords, rightWords, kindIn}
+use Rattle.words.specs.Words.{joined, pieces, sentence, sentences}
 use Rattle.words.proofs.Reading.{Lacks, any-append, all-lack}
 use Rattle.words.proofs.Formulas.{nameByte, Spelled}
 use Rattle.words.proofs.Sentences.{Tellable}
