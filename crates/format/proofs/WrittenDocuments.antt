@@ -158,7 +158,7 @@ small-node b (Node.and i j) l h e = small-numbers (length (b .nodes)) (omega ari
 small-node b (Node.or i j) l h e = small-numbers (length (b .nodes)) (omega arith) (i ∷ j ∷ []) e
 small-node b (Node.imp i j) l h e = small-numbers (length (b .nodes)) (omega arith) (i ∷ j ∷ []) e
 
-row-writable : (b : Body) (r : Row) → length (b .nodes) ≤ mostFormulas → PassedRow b r → Writable (rowLine (length (b .rows)) r)
+pub row-writable : (b : Body) (r : Row) → length (b .nodes) ≤ mostFormulas → PassedRow b r → Writable (rowLine (length (b .rows)) r)
 row-writable b r l ok =
     let premises = small-numbers (length (b .rows)) (omega arith) (r .premises) (ok .premises-earlier) in
     (omega arith, formulas (listed (r .principal)) (ok .principal-known), premises, formulas (r .left) (ok .left-known), formulas (r .right) (ok .right-known))

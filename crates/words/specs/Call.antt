@@ -1,8 +1,8 @@
 -- What the call answers, and what it leaves in the lent text and in the lent tables (paper 02, M-100).
 use Prim.Native.Nat.{ℕ}
 use mathlib.Core.Bool.{cond}
-use mathlib.Core.List.{[]}
-use lib.Dec.{leb}
+use mathlib.Core.List.{[], _∷_}
+use lib.Dec.{eqb, leb}
 use lib.ListN.{length}
 use Rattle.format.specs.Text.{Bytes}
 use Rattle.format.specs.Tables.{Lent, padded, Contents}
@@ -34,3 +34,8 @@ wordsLeft lent space text = padded space (kept (wordsJudged lent space text) (wo
 -- what the lent tables hold in the end: the file of a call that succeeds, and nothing after any refusal
 unfoldable pub wordsContents : Lent → ℕ → Bytes → Contents
 wordsContents lent space text = heldBy (wordsJudged lent space text) (beginning text)
+
+-- what a reader of a lent text sees: the bytes before the first zero
+abbrev pub untilZero : Bytes → Bytes
+untilZero [] = []
+untilZero (b ∷ bs) = cond (eqb b 0) [] (b ∷ untilZero bs)

@@ -1,0 +1,69 @@
+-- A meaning stands at its rule's code. By one computed test of all rules each, no two share one, and none holds a semicolon or a
+-- zero.
+use Prim.Native.Nat.{ℕ, zero, suc}
+use mathlib.Core.Path.{_≡_, refl, sym, ap, _∙_}
+use mathlib.Core.Bool.{false, cond}
+use mathlib.Core.List.{List, [], _∷_, _++_, map, append-cancel-left}
+use mathlib.Core.Option.{some}
+use native.Mathlib.Omega.{arith}
+use lib.Dec.{eqb}
+use lib.ListN.{getD}
+use Rattle.elk.specs.Rules.{Rule, rules, codeOf}
+use Rattle.elk.proofs.Faithful.{at, every-rule, rule-at-code}
+use Rattle.format.specs.Text.{Bytes, bytes, any, is, sameList}
+use Rattle.format.proofs.Booleans.{any-false}
+use Rattle.words.specs.Meanings.{meaningOf, meaningAt}
+use Rattle.words.proofs.Reading.{Lacks, span}
+
+pub meaning-at : (r : Rule) → meaningAt (codeOf r) ≡ bytes (meaningOf r)
+unfolding meaningAt
+meaning-at r = place rules (codeOf r) (rule-at-code r)
+  where
+    place : (qs : List Rule) (i : ℕ) → at qs i ≡ some r → getD (map (λ q. bytes (meaningOf q)) qs) i [] ≡ bytes (meaningOf r)
+    place [] i e = let z : _≡_ {A = ℕ} 0 1 = cc in absurd (omega arith)
+    place (q ∷ qs) zero e = let same : q ≡ r = cc in ap (λ (s : Rule). bytes (meaningOf s)) same
+    place (q ∷ qs) (suc i) e = place qs i e
+
+-- how many of the rules stand before the first with this meaning
+abbrev placeIn : List Rule → Bytes → ℕ
+placeIn [] words = 0
+placeIn (r ∷ rs) words = cond (is (meaningOf r) words) 0 (suc (placeIn rs words))
+
+-- each meaning is first found at its rule's code
+meanings-differ : map (λ r. placeIn rules (bytes (meaningOf r))) rules ≡ map codeOf rules
+unfolding meaningOf sameList
+meanings-differ = refl
+
+no-semicolon : any (λ r. any (λ b. eqb b 59) (bytes (meaningOf r))) rules ≡ false
+unfolding meaningOf
+no-semicolon = refl
+
+no-zero : any (λ r. any (λ b. eqb b 0) (bytes (meaningOf r))) rules ≡ false
+unfolding meaningOf
+no-zero = refl
+
+pub meaning-no-zero : (r : Rule) → Lacks 0 (bytes (meaningOf r))
+meaning-no-zero r = any-false (λ q. any (λ b. eqb b 0) (bytes (meaningOf q))) rules no-zero r (every-rule r)
+
+-- the place of a rule's meaning is its code
+found-at-code : (r : Rule) → placeIn rules (bytes (meaningOf r)) ≡ codeOf r
+found-at-code r = each (λ q. placeIn rules (bytes (meaningOf q))) codeOf rules (codeOf r) meanings-differ (rule-at-code r)
+  where
+    each : (f g : Rule → ℕ) (qs : List Rule) (i : ℕ) → map f qs ≡ map g qs → at qs i ≡ some r → f r ≡ g r
+    each f g [] i e k = let z : _≡_ {A = ℕ} 0 1 = cc in absurd (omega arith)
+    each f g (q ∷ qs) zero e k = cc
+    each f g (q ∷ qs) (suc i) e k = let rest : map f qs ≡ map g qs = cc in each f g qs i rest k
+
+pub same-meaning : (q r : Rule) → bytes (meaningOf q) ≡ bytes (meaningOf r) → q ≡ r
+same-meaning q r e =
+    let code : codeOf q ≡ codeOf r = sym (found-at-code q) ∙ ap (placeIn rules) e ∙ found-at-code r in
+    cc (rule-at-code q, rule-at-code r)
+
+-- a rule is told by its meaning, up to the semicolon
+pub told-rule : (q r : Rule) (x y : Bytes) → bytes (meaningOf q) ++ (bytes "; " ++ x) ≡ bytes (meaningOf r) ++ (bytes "; " ++ y) → (q ≡ r) × (x ≡ y)
+told-rule q r x y e =
+    let t = span (λ b. eqb b 59) (bytes (meaningOf q)) (bytes (meaningOf r)) (bytes "; " ++ x) (bytes "; " ++ y) (lacks q) (lacks r) refl refl e in
+    (same-meaning q r (t .0), append-cancel-left (bytes "; ") x y (t .1))
+  where
+    lacks : (s : Rule) → Lacks 59 (bytes (meaningOf s))
+    lacks s = any-false (λ p. any (λ b. eqb b 59) (bytes (meaningOf p))) rules no-semicolon s (every-rule s)
