@@ -73,7 +73,7 @@ module _ {A : Type 0} (f : A → List ℕ) where
         ∙ ap (λ (r : List (List ℕ)). f x ∷ r) (records-joined xs rest)
 
     -- record i is what the one at i wrote
-    record-at : (xs : List A) (i : ℕ) (d : A) (rest : List ℕ) → i < length xs → part (joinAll f xs ++ rest) (width * i) width ≡ f (getD xs i d)
+    pub record-at : (xs : List A) (i : ℕ) (d : A) (rest : List ℕ) → i < length xs → part (joinAll f xs ++ rest) (width * i) width ≡ f (getD xs i d)
     record-at xs i d rest h =
         ap (λ (table : List ℕ). part table (width * i) width) (entry-at xs i d rest h)
         ∙ part-between (joinAll f (take i xs)) (f (getD xs i d)) (joinAll f (drop (suc i) xs) ++ rest) (width * i) width

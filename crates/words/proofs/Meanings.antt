@@ -1,13 +1,13 @@
 -- A meaning stands at its rule's code. By one computed test of all rules each, no two share one, and none holds a semicolon or a
 -- zero.
-use Prim.Native.Nat.{ℕ, zero, suc}
+use Prim.Native.Nat.{ℕ, zero, suc, _≤_}
 use mathlib.Core.Path.{_≡_, refl, sym, ap, _∙_}
 use mathlib.Core.Bool.{false, cond}
 use mathlib.Core.List.{List, [], _∷_, _++_, map, append-cancel-left}
 use mathlib.Core.Option.{some}
 use native.Mathlib.Omega.{arith}
 use lib.Dec.{eqb}
-use lib.ListN.{getD}
+use lib.ListN.{getD, List·getD-eq-default}
 use Rattle.elk.specs.Rules.{Rule, rules, codeOf}
 use Rattle.elk.proofs.Faithful.{at, every-rule, rule-at-code}
 use Rattle.format.specs.Text.{Bytes, bytes, any, is, sameList}
@@ -23,6 +23,11 @@ meaning-at r = place rules (codeOf r) (rule-at-code r)
     place [] i e = let z : _≡_ {A = ℕ} 0 1 = cc in absurd (omega arith)
     place (q ∷ qs) zero e = let same : q ≡ r = cc in ap (λ (s : Rule). bytes (meaningOf s)) same
     place (q ∷ qs) (suc i) e = place qs i e
+
+-- no rule has a code past the table
+pub meaning-past : (code : ℕ) → 37 ≤ code → meaningAt code ≡ []
+unfolding meaningAt
+meaning-past code past = List·getD-eq-default (map (λ q. bytes (meaningOf q)) rules) [] past
 
 -- how many of the rules stand before the first with this meaning
 abbrev placeIn : List Rule → Bytes → ℕ

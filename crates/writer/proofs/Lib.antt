@@ -1,3 +1,4 @@
 pub mod Writing
 mod Decimals
 mod Zeros
+pub mod Spelled
