@@ -7,10 +7,11 @@ use mathlib.Core.Option.{Option, none, some}
 use lib.Dec.{eqb}
 use Rattle.elk.specs.Sequent.{Kind, elk, refutation}
 use Rattle.format.specs.Text.{Bytes, bytes, isDigit}
+use Rattle.format.specs.Tables.{Side}
 use Rattle.format.specs.Written.{Each, decimal, Small}
 use Rattle.format.proofs.WrittenNumbers.{decimal-digits, all-true}
 use Rattle.words.specs.Told.{Named, falsum, atom, neg, conj, disj, imp, Told}
-use Rattle.words.specs.Words.{formulaWords, items, listing, principalWords, premiseWords, leftWords, rightWords, kindIn}
+use Rattle.words.specs.Words.{formulaWords, items, listing, principalWords, premiseWords, sideWords, kindIn}
 use Rattle.words.specs.Words.{joined, pieces, sentence, sentences}
 use Rattle.words.proofs.Reading.{Lacks, any-append, all-lack}
 use Rattle.words.proofs.Formulas.{nameByte, Spelled}
@@ -66,13 +67,11 @@ principal-shown (some A) h = joined-shown (bytes "about the formula " ∷ formul
 premises-shown : (ns : List ℕ) → Each Small ns → NoZero (premiseWords ns)
 premises-shown = listing-shown decimal Small (λ n h. number-shown n) _ _ _ refl refl refl
 
-left-shown : (k : Kind) (As : List Named) → Each Spelled As → NoZero (leftWords k As)
-left-shown elk = listing-shown formulaWords Spelled formula-shown _ _ _ refl refl refl
-left-shown refutation = listing-shown formulaWords Spelled formula-shown _ _ _ refl refl refl
-
-right-shown : (k : Kind) (As : List Named) → Each Spelled As → NoZero (rightWords k As)
-right-shown elk = listing-shown formulaWords Spelled formula-shown _ _ _ refl refl refl
-right-shown refutation = listing-shown formulaWords Spelled formula-shown _ _ _ refl refl refl
+side-shown : (kind : Kind) (side : Side) (As : List Named) → Each Spelled As → NoZero (sideWords kind side As)
+side-shown elk Side.left = listing-shown formulaWords Spelled formula-shown _ _ _ refl refl refl
+side-shown elk Side.right = listing-shown formulaWords Spelled formula-shown _ _ _ refl refl refl
+side-shown refutation Side.left = listing-shown formulaWords Spelled formula-shown _ _ _ refl refl refl
+side-shown refutation Side.right = listing-shown formulaWords Spelled formula-shown _ _ _ refl refl refl
 
 sentence-shown : (n : ℕ) (t : Told) → Tellable t → NoZero (sentence n t)
 unfolding sentence
@@ -93,7 +92,7 @@ sentence-shown n t h =
                   refl,
                   (
                     premises-shown (t .premises) (h .premises),
-                    (refl, (left-shown (kindIn t) (t .left) (h .left), (refl, (right-shown (kindIn t) (t .right) (h .right), (refl, tt))))),
+                    (refl, (side-shown (kindIn t) Side.left (t .left) (h .left), (refl, (side-shown (kindIn t) Side.right (t .right) (h .right), (refl, tt))))),
                   ),
                 ),
               ),

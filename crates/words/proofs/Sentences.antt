@@ -9,9 +9,10 @@ use lib.ListN.{getD}
 use Rattle.elk.specs.Sequent.{Kind, elk, refutation}
 use Rattle.elk.specs.Rules.{Rule, entry, kindOf}
 use Rattle.format.specs.Text.{Bytes, bytes}
+use Rattle.format.specs.Tables.{Side}
 use Rattle.format.specs.Written.{Each, decimal, Small}
 use Rattle.words.specs.Told.{Named, Told}
-use Rattle.words.specs.Words.{formulaWords, principalWords, premiseWords, leftWords, rightWords, kindIn, joined, pieces, sentence, sentences}
+use Rattle.words.specs.Words.{formulaWords, principalWords, premiseWords, sideWords, kindIn, joined, pieces, sentence, sentences}
 use Rattle.words.proofs.Reading.{differ}
 use Rattle.words.proofs.Formulas.{Spelled, told-formula}
 use Rattle.words.proofs.Lists.{Marks, numbers-tell, formulas-tell, told-listing}
@@ -46,13 +47,12 @@ told-premises = told-listing decimal Small numbers-tell _ "; " (record { between
 
 -- formulas parted by commas, up to the end of their side
 module _ (ending : String) (marks : Marks ", " ending) (As Bs : List Named) (h : Each Spelled As) (k : Each Spelled Bs) (r s : Bytes) where
-  told-left : (kind : Kind) → leftWords kind As ++ (bytes ending ++ r) ≡ leftWords kind Bs ++ (bytes ending ++ s) → (As ≡ Bs) × (r ≡ s)
-  told-left elk e = told-listing formulaWords Spelled formulas-tell ", " ending marks _ _ refl As Bs h k r s e
-  told-left refutation e = told-listing formulaWords Spelled formulas-tell ", " ending marks _ _ refl As Bs h k r s e
-
-  told-right : (kind : Kind) → rightWords kind As ++ (bytes ending ++ r) ≡ rightWords kind Bs ++ (bytes ending ++ s) → (As ≡ Bs) × (r ≡ s)
-  told-right elk e = told-listing formulaWords Spelled formulas-tell ", " ending marks _ _ refl As Bs h k r s e
-  told-right refutation e = told-listing formulaWords Spelled formulas-tell ", " ending marks _ _ refl As Bs h k r s e
+  told-side : (kind : Kind) (side : Side) → sideWords kind side As ++ (bytes ending ++ r) ≡ sideWords kind side Bs ++ (bytes ending ++ s)
+      → (As ≡ Bs) × (r ≡ s)
+  told-side elk Side.left e = told-listing formulaWords Spelled formulas-tell ", " ending marks _ _ refl As Bs h k r s e
+  told-side elk Side.right e = told-listing formulaWords Spelled formulas-tell ", " ending marks _ _ refl As Bs h k r s e
+  told-side refutation Side.left e = told-listing formulaWords Spelled formulas-tell ", " ending marks _ _ refl As Bs h k r s e
+  told-side refutation Side.right e = told-listing formulaWords Spelled formulas-tell ", " ending marks _ _ refl As Bs h k r s e
 
 -- ---- sentences
 
@@ -70,7 +70,7 @@ same-row t u rule principal premises left right = λ i. record { rule = rule i; 
 
 -- both sides of a row by this rule, and what follows them
 abbrev sidesBy : Rule → Told → Bytes → Bytes
-sidesBy r t x = leftWords (kindOf (entry r)) (t .left) ++ (bytes "; " ++ (rightWords (kindOf (entry r)) (t .right) ++ (bytes ".\n" ++ x)))
+sidesBy r t x = sideWords (kindOf (entry r)) Side.left (t .left) ++ (bytes "; " ++ (sideWords (kindOf (entry r)) Side.right (t .right) ++ (bytes ".\n" ++ x)))
 
 told-sentence : (n : ℕ) (t u : Told) → Tellable t → Tellable u → (x y : Bytes) → sentence n t ++ x ≡ sentence n u ++ y → (t ≡ u) × (x ≡ y)
 unfolding sentence
@@ -81,8 +81,8 @@ told-sentence n t u ht hu x y e =
     let principal = told-principal (t .principal) (u .principal) (ht .principal) (hu .principal) _ _ (rule .1) in
     let premises = told-premises (t .premises) (u .premises) (ht .premises) (hu .premises) _ _ (principal .1) in
     let sides : sidesBy (t .rule) t x ≡ sidesBy (t .rule) u y = premises .1 ∙ ap (λ (r : Rule). sidesBy r u y) (sym (rule .0)) in
-    let left = told-left "; " semicolon (t .left) (u .left) (ht .left) (hu .left) _ _ (kindIn t) sides in
-    let right = told-right ".\n" full-stop (t .right) (u .right) (ht .right) (hu .right) _ _ (kindIn t) (left .1) in
+    let left = told-side "; " semicolon (t .left) (u .left) (ht .left) (hu .left) _ _ (kindIn t) Side.left sides in
+    let right = told-side ".\n" full-stop (t .right) (u .right) (ht .right) (hu .right) _ _ (kindIn t) Side.right (left .1) in
     (same-row t u (rule .0) (principal .0) (premises .0) (left .0) (right .0), right .1)
   where
     semicolon : Marks ", " "; "

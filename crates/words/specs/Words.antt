@@ -6,6 +6,7 @@ use mathlib.Core.Option.{Option, none, some}
 use Rattle.elk.specs.Sequent.{Kind, elk, refutation}
 use Rattle.elk.specs.Rules.{entry, kindOf}
 use Rattle.format.specs.Text.{Bytes, bytes}
+use Rattle.format.specs.Tables.{Side}
 use Rattle.format.specs.Written.{decimal}
 use Rattle.format.specs.Judged.{beginning}
 use Rattle.words.specs.Told.{Named, falsum, atom, neg, conj, disj, imp, Told, toldIn}
@@ -44,18 +45,23 @@ principalWords (some A) = joined (bytes "about the formula " ∷ formulaWords A 
 abbrev pub premiseWords : List ℕ → Bytes
 premiseWords = listing "from no other row" "from row " " and row " decimal
 
--- the left side, as each calculus means it
-abbrev pub leftWords : Kind → List Named → Bytes
-leftWords elk = listing "if nothing is given" "if these are all that is given: " ", " formulaWords
-leftWords refutation =
-    listing "there is a counter-case in here-and-there where nothing need hold"
-    "there is a counter-case in here-and-there where all of these hold: " ", " formulaWords
+-- the words of an empty side, as each calculus means it
+abbrev pub emptySide : Kind → Side → String
+emptySide elk Side.left = "if nothing is given"
+emptySide elk Side.right = "then there is no equilibrium model"
+emptySide refutation Side.left = "there is a counter-case in here-and-there where nothing need hold"
+emptySide refutation Side.right = "and nothing need fail"
 
--- the right side
-abbrev pub rightWords : Kind → List Named → Bytes
-rightWords elk =
-    listing "then there is no equilibrium model" "then in every equilibrium model at least one of these alternatives holds: " ", " formulaWords
-rightWords refutation = listing "and nothing need fail" "and none of these holds: " ", " formulaWords
+-- the words before the formulas of a side
+abbrev pub sideOpening : Kind → Side → String
+sideOpening elk Side.left = "if these are all that is given: "
+sideOpening elk Side.right = "then in every equilibrium model at least one of these alternatives holds: "
+sideOpening refutation Side.left = "there is a counter-case in here-and-there where all of these hold: "
+sideOpening refutation Side.right = "and none of these holds: "
+
+-- a side
+abbrev pub sideWords : Kind → Side → List Named → Bytes
+sideWords kind side = listing (emptySide kind side) (sideOpening kind side) ", " formulaWords
 
 -- the calculus of a row
 abbrev pub kindIn : Told → Kind
@@ -67,8 +73,8 @@ pieces n t =
     bytes "Row " ∷ decimal n ∷ bytes ": " ∷ bytes (meaningOf (t .rule))
     ∷ bytes "; " ∷ principalWords (t .principal)
     ∷ bytes "; " ∷ premiseWords (t .premises)
-    ∷ bytes "; " ∷ leftWords (kindIn t) (t .left)
-    ∷ bytes "; " ∷ rightWords (kindIn t) (t .right)
+    ∷ bytes "; " ∷ sideWords (kindIn t) Side.left (t .left)
+    ∷ bytes "; " ∷ sideWords (kindIn t) Side.right (t .right)
     ∷ bytes ".\n" ∷ []
 
 -- the sentence of row n
