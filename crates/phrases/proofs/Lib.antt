@@ -1,0 +1,3 @@
+-- Laws of the words of formulas, rows and sides, as tables tell them.
+mod RecordWords
+mod TableFormulas

@@ -1,2 +1,3 @@
 // The words of the parts of a sentence, each written after what stands before it in a lent text.
+pub mod formulas;
 pub mod meanings;
