@@ -1,0 +1,2 @@
+-- Laws of the phrases end to end.
+mod EndToEnd
