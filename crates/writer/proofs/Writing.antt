@@ -3,7 +3,7 @@
 use Prim.Native.Nat.{ℕ, _+_, _-_, _≤_, _<_}
 use native.Mathlib.Omega.{arith}
 use mathlib.Core.Bool.{Bool, true, false, cond, false≢true}
-use mathlib.Core.List.{List, [], _∷_, _++_, append-assoc}
+use mathlib.Core.List.{List, [], _∷_, _++_, append-assoc, append-nil}
 use mathlib.Core.Path.{_≡_, refl, sym, ap, subst, _∙_}
 use borrow.Author.Tests.{le-leb, lt-leb, leb-true, leb-false}
 use lib.Dec.{leb}
@@ -112,3 +112,21 @@ writes-then {first} {second} {text} {text₁} {text₂} {w} {w₁} {w₂} p q =
         at-second =
             p .reached ∙ ap (λ (v : Written). after (length text) v (length first)) e
             ∙ after-fits (length text) a (length first) (omega (arith, both, h))
+
+-- after words that were written, nothing more is written as it stands
+pub writes-nothing : {words text text′ : Bytes} {w r : Written} → Writes words text w text′ r → Writes [] text′ r text′ r
+writes-nothing {words} {text} {text′} {w} {r} p = record { length-kept = refl; reached = far; in-front = front }
+  where
+    none-more : length words + 0 ≡ length words
+    none-more = omega arith
+
+    far : r ≡ after (length text′) r 0
+    far =
+        p .reached
+        ∙ ap (after (length text) w) (sym none-more)
+        ∙ sym (after-after (length text) w (length words) 0)
+        ∙ ap (λ (v : Written). after (length text) v 0) (sym (p .reached))
+        ∙ ap (λ (n : ℕ). after n r 0) (sym (p .length-kept))
+
+    front : (a : ℕ) → r ≡ Written.To a → a + 0 ≤ length text′ → take (a + 0) text′ ≡ take a text′ ++ []
+    front a e h = let same : a + 0 ≡ a = omega arith in ap (λ (k : ℕ). take k text′) same ∙ sym (append-nil (take a text′))

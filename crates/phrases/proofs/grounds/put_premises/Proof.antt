@@ -1,66 +1,63 @@
+-- `phrases::grounds::put_premises` meets its contract.
+use Rattle.writer.proofs.Writing.{writes-as, writes-then}
+use Rattle.phrases.proofs.TableRows.{no-premises, one-premise, two-premises}
 use borrow.Author.Needs.{needs}
 use Rattle.phrases.proofs.grounds.put_premises.Statement.{statement}
 use Rattle.phrases.proofs.grounds.put_premises.Tie as tie
-use Rattle.phrases.proofs.grounds.put_premises.Reads as reads
-use Rattle.phrases.proofs.grounds.put_premises.Lts as lts
-use Rattle.writer.proofs.put.Reads as put-reads
-use Rattle.writer.proofs.put_number.Reads as put-number-reads
 
--- src/grounds.rt:35:20
 slice-aggregate-put : tie.Need-slice-aggregate-put
 slice-aggregate-put c = search needs
 
--- src/grounds.rt:35:9
 put-requires : tie.Need-put-requires
 put-requires c κs = search needs
 
--- src/grounds.rt:35:9
 same-length : tie.Need-same-length
 same-length c = search needs
 
--- src/grounds.rt:35:9
 returns : tie.Need-returns
-returns c = ?
+returns c =
+    let args = c .before .before .before .before .before .before .before .args in
+    writes-as (no-premises (args .first) (args .second) (c .before .before .before .before .before .if1 .taken)) (c .before .before .put .ensures)
 
--- src/grounds.rt:37:21
 slice-aggregate-put-2 : tie.Need-slice-aggregate-put-2
 slice-aggregate-put-2 c = search needs
 
--- src/grounds.rt:37:9
 put-requires-2 : tie.Need-put-requires-2
 put-requires-2 c κs = search needs
 
--- src/grounds.rt:38:9
 put-number-requires : tie.Need-put-number-requires
 put-number-requires c κs = search needs
 
--- src/grounds.rt:40:9
 same-length-2 : tie.Need-same-length-2
 same-length-2 c = search needs
 
--- src/grounds.rt:40:9
 returns-2 : tie.Need-returns-2
-returns-2 c = ?
+returns-2 c =
+    let args = c .before .before .before .before .before .before .before .before .before .before .before .before .args in
+    writes-as (one-premise (args .first) (args .second) (c .before .before .before .before .before .before .before .before .before .before .if1 .left) (c .if2 .taken))
+    (writes-then (c .before .before .before .before .before .before .before .put2 .ensures) (c .before .before .before .put-number .ensures))
 
--- src/grounds.rt:42:22
 slice-aggregate-put-3 : tie.Need-slice-aggregate-put-3
 slice-aggregate-put-3 c = search needs
 
--- src/grounds.rt:42:9
 put-requires-3 : tie.Need-put-requires-3
 put-requires-3 c κs = search needs
 
--- src/grounds.rt:43:5
 put-number-requires-2 : tie.Need-put-number-requires-2
 put-number-requires-2 c κs = search needs
 
--- src/grounds.rt:31:1
 same-length-3 : tie.Need-same-length-3
 same-length-3 c = search needs
 
--- src/grounds.rt:31:1
 returns-3 : tie.Need-returns-3
-returns-3 c = ?
+returns-3 c =
+    let at-test = c .before .before .before .before .before .before .before .before .before in
+    let at-first = at-test .before .before .before in
+    let at-begun = at-first .before .before .before .before in
+    let args = at-begun .before .before .before .before .before .args in
+    writes-as (two-premises (args .first) (args .second) (at-begun .before .before .before .if1 .left) (at-test .if2 .left))
+    (writes-then (at-begun .put2 .ensures) (writes-then (at-first .put-number .ensures)
+    (writes-then (c .before .before .before .before .before .before .put3 .ensures) (c .before .before .put-number2 .ensures))))
 
 pub put-premises-spec : {M : Type 1} → statement M
 put-premises-spec =

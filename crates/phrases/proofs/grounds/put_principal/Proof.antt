@@ -1,51 +1,50 @@
+-- `phrases::grounds::put_principal` meets its contract.
+use mathlib.Core.Bool.{Bool, cond}
+use mathlib.Core.List.{_++_, append-nil}
+use mathlib.Core.Option.{none, some}
+use mathlib.Core.Path.{_≡_, sym, ap, _∙_}
+use Rattle.words.specs.Words.{principalWords}
+use Rattle.writer.proofs.Writing.{writes-as, writes-then}
+use Rattle.phrases.proofs.TableRows.{no-principal, principal-words}
 use borrow.Author.Needs.{needs}
 use Rattle.phrases.proofs.grounds.put_principal.Statement.{statement}
 use Rattle.phrases.proofs.grounds.put_principal.Tie as tie
-use Rattle.phrases.proofs.grounds.put_principal.Reads as reads
-use Rattle.phrases.proofs.grounds.put_principal.Lts as lts
-use Rattle.phrases.proofs.formulas.put_formula.Reads as put-formula-reads
-use Rattle.tables.proofs.records.wide.Reads as wide-reads
-use Rattle.writer.proofs.put.Reads as put-reads
 
--- src/grounds.rt:24:20
 slice-aggregate-put : tie.Need-slice-aggregate-put
 slice-aggregate-put c = search needs
 
--- src/grounds.rt:24:9
 put-requires : tie.Need-put-requires
 put-requires c κs = search needs
 
--- src/grounds.rt:24:9
 same-length : tie.Need-same-length
 same-length c = search needs
 
--- src/grounds.rt:24:9
 returns : tie.Need-returns
-returns c = ?
+unfolding principalWords
+returns c =
+    let args = c .before .before .before .before .before .before .before .before .before .before .args in
+    writes-as (no-principal (args .text .now) (args .names .now) (args .formulas .now) (args .principal) (c .before .before .before .before .before .if1 .taken)) (c .before .before .put .ensures)
 
--- src/grounds.rt:26:21
 slice-aggregate-put-2 : tie.Need-slice-aggregate-put-2
 slice-aggregate-put-2 c = search needs
 
--- src/grounds.rt:26:9
 put-requires-2 : tie.Need-put-requires-2
 put-requires-2 c κs = search needs
 
--- src/grounds.rt:27:40
 wide-requires : tie.Need-wide-requires
 wide-requires c κs = search needs
 
--- src/grounds.rt:27:5
 put-formula-requires : tie.Need-put-formula-requires
 put-formula-requires c κs = search needs
 
--- src/grounds.rt:12:1
 same-length-2 : tie.Need-same-length-2
 same-length-2 c = search needs
 
--- src/grounds.rt:12:1
 returns-2 : tie.Need-returns-2
-returns-2 c = ?
+returns-2 c =
+    let args = c .before .before .before .before .before .before .before .before .before .before .before .before .before .before .before .args in
+    writes-as (principal-words (args .text .now) (args .names .now) (args .formulas .now) (args .principal) (c .before .before .before .before .before .before .before .before .before .before .if1 .left) _ (c .before .before .before .before .wide .ensures))
+    (writes-then (c .before .before .before .before .before .before .before .put2 .ensures) (c .before .before .put-formula .ensures))
 
 pub put-principal-spec : {M : Type 1} → statement M
 put-principal-spec =
