@@ -7,8 +7,8 @@ use mathlib.Core.List.{List, [], _∷_, _++_, append-assoc, append-nil}
 use mathlib.Core.Path.{_≡_, refl, sym, ap, subst, _∙_}
 use borrow.Author.Tests.{le-leb, lt-leb, leb-true, leb-false}
 use lib.Dec.{leb}
-use lib.ListN.{length, take, drop, length-append}
-use lib.Seq.{take-at, length-take-le}
+use lib.ListN.{length, take, drop, length-append, length-drop}
+use lib.Seq.{take-at, length-take-le, take-append-add, take-append-le}
 use Rattle.format.specs.Text.{Bytes}
 use Rattle.writer.specs.declared.Written.{Written}
 use Rattle.writer.specs.Writing.{after, Writes}
@@ -130,3 +130,97 @@ writes-nothing {words} {text} {text′} {w} {r} p = record { length-kept = refl;
 
     front : (a : ℕ) → r ≡ Written.To a → a + 0 ≤ length text′ → take (a + 0) text′ ≡ take a text′ ++ []
     front a e h = let same : a + 0 ≡ a = omega arith in ap (λ (k : ℕ). take k text′) same ∙ sym (append-nil (take a text′))
+
+-- nothing is written at the start
+pub writes-start : (text : Bytes) → Writes [] text (Written.To 0) text (Written.To 0)
+writes-start text = placed-writes [] text text 0 (omega arith) refl refl
+
+-- what is written ends inside
+pub writes-within : {words text text′ : Bytes} {w : Written} {end : ℕ} → Writes words text w text′ (Written.To end) → end ≤ length text
+writes-within {words} {text} {text′} {w} {end} p = by w (p .reached)
+  where
+    to : (at : ℕ) (fits : Bool) → leb (at + length words) (length text) ≡ fits
+        → Written.To end ≡ cond fits (Written.To (at + length words)) Written.NoRoom → end ≤ length text
+    to at true f e = let same : end ≡ at + length words = cc e in omega (arith, leb-true (at + length words) (length text) f)
+    to at false f e = absurd (false≢true (ap reaches (sym e)))
+
+    by : (v : Written) → Written.To end ≡ after (length text) v (length words) → end ≤ length text
+    by (Written.To at) e = to at (leb (at + length words) (length text)) refl e
+    by Written.NoRoom e = absurd (false≢true (ap reaches (sym e)))
+
+-- ---- the rest of a lent text
+
+-- so many bytes further on
+abbrev pub further-on : ℕ → Written → Written
+further-on start (Written.To n) = Written.To (start + n)
+further-on start Written.NoRoom = Written.NoRoom
+
+-- a text whose bytes from `start` on were lent, and came back as `part`
+abbrev pub backFrom : Bytes → ℕ → Bytes → Bytes
+backFrom text start part = take start text ++ (part ++ drop (length text - start) (drop start text))
+
+module _ (text : Bytes) (start : ℕ) (inside : start ≤ length text) where
+  abbrev lent : Bytes
+  lent = take (length text - start) (drop start text)
+
+  lent-length : length lent ≡ length text - start
+  lent-length = length-take-le (length text - start) (drop start text) (omega (arith, length-drop start text))
+
+  abbrev behind : Bytes
+  behind = drop (length text - start) (drop start text)
+
+  front-length : length (take start text) ≡ start
+  front-length = length-take-le start text inside
+
+  reach-on : (count : ℕ) → further-on start (after (length text - start) (Written.To 0) count) ≡ after (length text) (Written.To start) count
+  reach-on count = by (leb (0 + count) (length text - start)) refl
+    where
+      by : (fits : Bool) → leb (0 + count) (length text - start) ≡ fits
+          → further-on start (after (length text - start) (Written.To 0) count) ≡ after (length text) (Written.To start) count
+      by true e =
+          let h = leb-true (0 + count) (length text - start) e in
+          let same : start + (0 + count) ≡ start + count = omega arith in
+          ap (further-on start) (after-fits (length text - start) 0 count h)
+          ∙ ap Written.To same
+          ∙ sym (after-fits (length text) start count (omega (arith, h, inside)))
+      by false e =
+          let h = leb-false (0 + count) (length text - start) e in
+          ap (further-on start) (after-full (length text - start) 0 count h) ∙ sym (after-full (length text) start count (omega (arith, h, inside)))
+
+  -- what is written at the start of the rest is written after what stands before it
+  pub writes-rest : {words part : Bytes} {r : Written} → Writes words lent (Written.To 0) part r
+      → Writes words text (Written.To start) (backFrom text start part) (further-on start r)
+  writes-rest {words} {part} {r} p = record { length-kept = kept; reached = far; in-front = front }
+    where
+      part-length : length part ≡ length text - start
+      part-length = p .length-kept ∙ lent-length
+
+      kept : length (backFrom text start part) ≡ length text
+      kept =
+          let none : length behind ≡ 0 = omega (arith, length-drop (length text - start) (drop start text), length-drop start text) in
+          simp length-append (omega (arith, front-length, part-length, none, inside))
+
+      far : further-on start r ≡ after (length text) (Written.To start) (length words)
+      far =
+          ap (further-on start) (p .reached ∙ ap (λ (n : ℕ). after n (Written.To 0) (length words)) lent-length) ∙ reach-on (length words)
+
+      front : (a : ℕ) → Written.To start ≡ Written.To a → a + length words ≤ length text
+          → take (a + length words) (backFrom text start part) ≡ take a text ++ words
+      front a same h =
+          let e : start ≡ a = cc same in
+          let room : 0 + length words ≤ length lent = omega (arith, lent-length, h, e) in
+          let none : 0 + length words ≡ length words = omega arith in
+          let short : length words ≤ length part = omega (arith, part-length, h, e) in
+          subst (λ (k : ℕ). take (k + length words) (backFrom text start part) ≡ take k text ++ words) e
+          (ap (λ (k : ℕ). take (k + length words) (backFrom text start part)) (sym front-length)
+          ∙ take-append-add (take start text) (part ++ behind) (length words)
+          ∙ ap (λ (bs : Bytes). take start text ++ bs)
+          (take-append-le (length words) part behind short ∙ ap (λ (k : ℕ). take k part) (sym none) ∙ p .in-front 0 refl room))
+
+  module _ {words part : Bytes} {r : Written} (p : Writes words lent (Written.To 0) part r) where
+    -- the same, where it is known how much was written
+    pub rest-told : {n : ℕ} → r ≡ Written.To n → Writes words text (Written.To start) (backFrom text start part) (Written.To (start + n))
+    rest-told e = subst (λ (v : Written). Writes words text (Written.To start) (backFrom text start part) (further-on start v)) e (writes-rest p)
+
+    pub rest-full : r ≡ Written.NoRoom → Writes words text (Written.To start) (backFrom text start part) Written.NoRoom
+    rest-full e = subst (λ (v : Written). Writes words text (Written.To start) (backFrom text start part) (further-on start v)) e (writes-rest p)
