@@ -18,7 +18,6 @@ use Rattle.format.proofs.Stepping.{answer-stub, run-end, answer-end}
 use Rattle.parts.proofs.PartLaws.{next-bounds, last-part}
 use Rattle.parts.specs.Refusals.{badLine}
 use Rattle.state.specs.State.{Memory, claimLine}
-use Rattle.run.specs.Lent.{five, fiveOf}
 use Rattle.run.specs.Running.{place, Running, Runs}
 use Rattle.run.specs.declared.Ran.{Ran}
 use Rattle.answers.specs.Answers.{answer, answerBy, finished, Accepts, Refuses}
@@ -72,7 +71,7 @@ module _ (text : Bytes) (ran : Ran) (t : Memory) (runs : Runs text ran t) where
           below-four claimed = omega arith
 
       -- the claim was made, and the file is stored
-      ends-claimed : ran .state .stage ≡ rank claimed → Accepts text (fiveOf t) (answer 0 (ran .state .claim))
+      ends-claimed : ran .state .stage ≡ rank claimed → Accepts text (ran .state) t (answer 0 (ran .state .claim))
       ends-claimed e =
           let stored = at-end .stored in
           let made = at-end .good .claim-made (omega (arith, e, stored .stage)) in
@@ -85,16 +84,18 @@ module _ (text : Bytes) (ran : Ran) (t : Memory) (runs : Runs text ran t) where
             is-file =
                 at-end .outcome ∙ ap (λ (bs : Bytes). runFrom (place (ran .line) (ran .at)) bs (at-end .file)) (drop-of-length-le text all)
                 ∙ run-end (place (ran .line) (ran .at)) (at-end .file);
-            holds = λ i. five (stored .names i) (stored .formulas i) (stored .rows i) (stored .left i) (stored .right i);
+            lines = at-end .done;
+            good = at-end .good;
+            stored = stored;
           }
 
-  pub ends : Accepts text (fiveOf t) (finished (length text) ran) ⊎ Refuses text (finished (length text) ran)
+  pub ends : Accepts text (ran .state) t (finished (length text) ran) ⊎ Refuses text (finished (length text) ran)
   unfolding finished
   ends = by-tests (eqb (ran .number) 0) (ltb (ran .at) (length text)) (eqb (ran .state .stage) (rank claimed)) refl refl refl
     where
       by-tests : (passed more made : Bool) → eqb (ran .number) 0 ≡ passed → ltb (ran .at) (length text) ≡ more
           → eqb (ran .state .stage) (rank claimed) ≡ made
-          → Accepts text (fiveOf t) (answerBy passed more made ran) ⊎ Refuses text (answerBy passed more made ran)
+          → Accepts text (ran .state) t (answerBy passed more made ran) ⊎ Refuses text (answerBy passed more made ran)
       by-tests false more made p m c = inr (ends-refused (eqb-false (ran .number) 0 p))
       by-tests true true made p m c = inr (ends-stub (eqb-true (ran .number) 0 p) (ltb-true (ran .at) (length text) m))
       by-tests true false false p m c =

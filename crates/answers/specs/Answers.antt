@@ -2,14 +2,17 @@
 use Prim.Native.Nat.{ℕ}
 use mathlib.Core.Path.{_≡_}
 use mathlib.Core.Bool.{Bool, true, false}
+use mathlib.Core.List.{List}
 use lib.Dec.{eqb, ltb}
 use Rattle.format.specs.Text.{Bytes}
 use Rattle.format.specs.File.{File, noFile, claimed}
-use Rattle.format.specs.Tables.{Contents, Lent, padded, encode}
+use Rattle.format.specs.Tables.{Contents, Lent, padded}
+use Rattle.format.specs.Good.{Good}
 use Rattle.format.specs.Tests.{rank}
 use Rattle.format.specs.Judged.{accepted, turnedDown, next, top, beginning, answerFrom}
 use Rattle.parts.specs.Refusals.{badLine}
-use Rattle.run.specs.Lent.{lengths}
+use Rattle.state.specs.State.{Memory, Stored}
+use Rattle.state.specs.declared.State.{State}
 use Rattle.run.specs.declared.Ran.{Ran}
 use Rattle.answers.specs.declared.Answer.{Answer}
 
@@ -38,13 +41,15 @@ filled lent c =
       right = padded (lent .right) (c .right);
     }
 
--- the run over all lines of a text accepts it: the tables hold its file
-pub record Accepts (text : Bytes) (t : Contents) (answer : Answer) : Type 0 where
+-- the run over all lines of a text accepts it: the tables and the state hold its file
+pub record Accepts (text : Bytes) (s : State) (t : Memory) (answer : Answer) : Type 0 where
   pub number : answer .number ≡ 0
   pub line : answerFrom top text noFile ≡ accepted (answer .line)
   pub file : File
   pub is-file : beginning text ≡ next file
-  pub holds : t ≡ filled (lengths t) (encode file)
+  pub lines : List Bytes
+  pub good : Good lines file
+  pub stored : Stored text file s t
 
 -- or it refuses it, with a number that is not 0
 pub record Refuses (text : Bytes) (answer : Answer) : Type 0 where

@@ -18,14 +18,18 @@ use Rattle.format.specs.Judged.{Ruling, accepted, turnedDown, numberIn, lineIn,
 use Rattle.format.proofs.Booleans.{or-false}
 use Rattle.format.proofs.Stepping.{first-applies, first-passes}
 use Rattle.format.proofs.Accepted.{accepted-holds}
+use Rattle.counts.specs.Counts.{noCounts}
+use Rattle.counts.specs.declared.Counts.{Counts}
 use Rattle.state.specs.State.{Full, Memory}
+use Rattle.state.specs.declared.State.{State}
 use Rattle.run.specs.Lent.{five, fiveOf, lengths, clear, Zeros}
 use Rattle.run.specs.Running.{Fresh, RunOver}
 use Rattle.run.specs.declared.Ran.{Ran}
 use Rattle.answers.specs.Answers.{finished, filled, Accepts}
 use Rattle.answers.specs.declared.Answer.{Answer}
 use Rattle.answers.proofs.Ends.{ends}
-use Rattle.judge.specs.Contract.{Judges}
+use Rattle.judge.specs.Contract.{Judges, Filed, JudgesFile}
+use Rattle.judge.specs.declared.Judged.{Judged}
 
 module _ (text : Bytes) (lent : Lent) where
   by-tests : (o : Option ℕ) → first (wholeTests lent text) ≡ o → judged lent text ≡ orWhole o (answerFrom top text noFile)
@@ -74,13 +78,34 @@ module _ (text : Bytes) (lent : Lent) where
             λ i. five (none-in (lent .names) i) (none-in (lent .formulas) i) (none-in (lent .rows) i) (none-in (lent .left) i)
             (none-in (lent .right) i)
 
-    -- an acceptance, with the tables that the run left
-    judges-accepted : judged lent text ≡ answerFrom top text noFile → lengths t ≡ lent → Accepts text t answer → Judges text lent t answer
-    judges-accepted e same a =
+    -- the same, with no counts
+    pub cleared-file : {counts : Counts} → judged lent text ≡ turnedDown (answer .number) (answer .line) → (answer .number ≡ 0 → ⊥)
+        → t ≡ clear lent → counts ≡ noCounts → JudgesFile text lent t (record { answer = answer; counts = counts })
+    cleared-file e refusal cleared empty = record { judges = judges-cleared e refusal cleared; filed = λ z. absurd (refusal z); none-filed = λ _. empty }
+
+  -- an acceptance, with the tables that the run left
+  module _ {s : State} {t : Memory} {answer : Answer} (a : Accepts text s t answer) where
+    holds : fiveOf t ≡ filled (lengths (fiveOf t)) (encode (a .file))
+    holds = let stored = a .stored in λ i. five (stored .names i) (stored .formulas i) (stored .rows i) (stored .left i) (stored .right i)
+
+    accepted-file : Filed text (fiveOf t) (s .counts)
+    accepted-file =
+        record {
+          file = a .file;
+          is-file = a .is-file;
+          good = a .good .body;
+          named = a .good .names;
+          names-in = a .stored .names-in;
+          holds = holds;
+          counted = a .stored .counts;
+        }
+
+    judges-accepted : judged lent text ≡ answerFrom top text noFile → lengths (fiveOf t) ≡ lent → Judges text lent (fiveOf t) answer
+    judges-accepted e same =
         record {
           number = a .number ∙ sym (ap numberIn whole);
           line = sym (ap lineIn whole);
-          tables = a .holds ∙ ap₂ filled same (sym held);
+          tables = holds ∙ ap₂ filled same (sym held);
           claim-holds = λ z bad. accepted-holds lent text (answer .line) whole bad;
         }
       where
@@ -104,7 +129,7 @@ module _ {text : Bytes} {ran : Ran} {before after : Memory} {answer : Answer} (e
 
   -- what the definition says, by the two kinds of answer
   Accepted : Answer → Type 0
-  Accepted a = (judged lent text ≡ answerFrom top text noFile) × Accepts text (fiveOf after) a
+  Accepted a = (judged lent text ≡ answerFrom top text noFile) × Accepts text (ran .state) after a
 
   Refused : Answer → Type 0
   Refused a = (judged lent text ≡ turnedDown (a .number) (a .line)) × (a .number ≡ 0 → ⊥)
@@ -125,21 +150,29 @@ module _ {text : Bytes} {ran : Ran} {before after : Memory} {answer : Answer} (e
           ⊎-elim (λ a. inl (read, a)) (λ r. inr (read ∙ r .line, r .number)) (ends text ran after (over .runs few fresh))
 
   -- number 0: the tables stay as the run left them
-  pub judges-kept : answer .number ≡ 0 → Judges text (lengths (fiveOf before)) (fiveOf after) answer
+  pub judges-kept : answer .number ≡ 0
+      → JudgesFile text (lengths (fiveOf before)) (fiveOf after) (record { answer = answer; counts = ran .state .counts })
   unfolding lent Accepted Refused
-  judges-kept e = ⊎-elim (λ a. judges-accepted text lent (fiveOf after) answer (a .0) same (a .1)) (λ r. absurd (r .1 e)) either
+  judges-kept e = ⊎-elim kept (λ r. absurd (r .1 e)) either
+    where
+      kept : Accepted answer → JudgesFile text (lengths (fiveOf before)) (fiveOf after) (record { answer = answer; counts = ran .state .counts })
+      kept a =
+          record {
+            judges = judges-accepted text (lengths (fiveOf before)) (a .1) (a .0) same;
+            filed = λ _. accepted-file text (lengths (fiveOf before)) (a .1);
+            none-filed = λ n. absurd (n e);
+          }
 
   -- another number: they have been cleared
-  pub judges-again-clear : {t : Contents} → (answer .number ≡ 0 → ⊥) → t ≡ clear (lengths (fiveOf after))
-      → Judges text (lengths (fiveOf before)) t answer
+  pub judges-again-clear : {t : Contents} {counts : Counts} → (answer .number ≡ 0 → ⊥) → t ≡ clear (lengths (fiveOf after)) → counts ≡ noCounts
+      → JudgesFile text (lengths (fiveOf before)) t (record { answer = answer; counts = counts })
   unfolding lent Accepted Refused
-  judges-again-clear {t} n cleared =
-      ⊎-elim (λ a. absurd (n (a .1 .number))) (λ r. judges-cleared text lent t answer (r .0) n (cleared ∙ ap clear same)) either
+  judges-again-clear {t} n cleared empty =
+      ⊎-elim (λ a. absurd (n (a .1 .number))) (λ r. cleared-file text (lengths (fiveOf before)) t answer (r .0) n (cleared ∙ ap clear same) empty) either
 
 -- the same promise by equal lengths
-pub judges-same : {text : Bytes} {lent lent′ : Lent} {t : Contents} {answer : Answer} → lent ≡ lent′ → Judges text lent t answer
-    → Judges text lent′ t answer
-judges-same {text} {t = t} {answer = answer} e j = subst (λ (l : Lent). Judges text l t answer) e j
+pub judges-same : {text : Bytes} {lent lent′ : Lent} {t : Contents} {r : Judged} → lent ≡ lent′ → JudgesFile text lent t r → JudgesFile text lent′ t r
+judges-same {text} {t = t} {r = r} e j = subst (λ (l : Lent). JudgesFile text l t r) e j
 
 -- tables that are long enough are full
 long-enough : (t : Memory) → tooShort (lengths (fiveOf t)) ≡ false → 3 * mostFormulas ≤ length (t .notes) → Full t

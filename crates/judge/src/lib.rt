@@ -4,9 +4,10 @@ ghost use mathlib.Core.Path.{_≡_};
 ghost use mathlib.Core.Bool.{false};
 ghost use Rattle.format.specs.Tables.{tooShort};
 ghost use Rattle.run.specs.Lent.{five, lengths, clear, Zeros};
-ghost use Rattle.judge.specs.Contract.{Judges, Checks};
+ghost use Rattle.judge.specs.Contract.{Judges, JudgesFile, Checks};
 use answers::Answer;
 use answers::finish;
+use counts::Counts;
 use counts::lengths::too_short;
 use counts::limits::LEAST_FORMULAS;
 use counts::limits::LEAST_NAMES;
@@ -16,7 +17,8 @@ use counts::limits::MOST_ENTRIES;
 use run::run;
 use tables::clear;
 
-fn clear_all(
+// Zeros through every table.
+pub fn clear_all(
     names: &mut [u16],
     formulas: &mut [u16],
     rows: &mut [u16],
@@ -33,6 +35,12 @@ fn clear_all(
     clear(right);
 }
 
+// The answer, and the counts of the file that the tables hold; of none where the text is refused.
+pub struct Judged {
+    pub answer: Answer,
+    pub counts: Counts,
+}
+
 // A text run into clear tables of full length, which are clear again if it is refused.
 fn run_or_clear(
     text: &[u8],
@@ -41,10 +49,10 @@ fn run_or_clear(
     rows: &mut [u16],
     left: &mut [u16],
     right: &mut [u16],
-) -> Answer
+) -> Judged
     requires { ⌜ (tooShort (lengths (five (now names) (now formulas) (now rows) (now left) (now right))) ≡ false)
         × Zeros (five (now names) (now formulas) (now rows) (now left) (now right)) ⌝ }
-    ensures { λ r. ⌜ Judges (now (text .entry))
+    ensures { λ r. ⌜ JudgesFile (now (text .entry))
         (lengths (five (now (names .entry)) (now (formulas .entry)) (now (rows .entry)) (now (left .entry)) (now (right .entry))))
         (five (now (names .exit)) (now (formulas .exit)) (now (rows .exit)) (now (left .exit)) (now (right .exit))) r ⌝ }
 {
@@ -52,10 +60,14 @@ fn run_or_clear(
     let ran = run(text, names, formulas, &mut notes, rows, left, right);
     let answer = finish(text, ran);
     if answer.number == 0 {
-        return answer;
+        let counts = ran.state.counts;
+        return Judged { answer, counts };
     }
     clear_all(names, formulas, rows, left, right);
-    answer
+    Judged {
+        answer,
+        counts: Counts::none(),
+    }
 }
 
 // The answer to a text, with the file in the lent tables if it is accepted and zeros through all of them if it is refused.
@@ -67,8 +79,8 @@ pub fn judge(
     rows: &mut [u16],
     left: &mut [u16],
     right: &mut [u16],
-) -> Answer
-    ensures { λ r. ⌜ Judges (now (text .entry))
+) -> Judged
+    ensures { λ r. ⌜ JudgesFile (now (text .entry))
         (lengths (five (now (names .entry)) (now (formulas .entry)) (now (rows .entry)) (now (left .entry)) (now (right .entry))))
         (five (now (names .exit)) (now (formulas .exit)) (now (rows .exit)) (now (left .exit)) (now (right .exit))) r ⌝ }
 {
@@ -81,7 +93,10 @@ pub fn judge(
     );
     clear_all(names, formulas, rows, left, right);
     if short {
-        return Answer { number: 1, line: 0 };
+        return Judged {
+            answer: Answer { number: 1, line: 0 },
+            counts: Counts::none(),
+        };
     }
     run_or_clear(text, names, formulas, rows, left, right)
 }
@@ -100,7 +115,7 @@ pub extern "C" fn elk_judge(
         (lengths (five (now (names .entry)) (now (formulas .entry)) (now (rows .entry)) (now (left .entry)) (now (right .entry))))
         (five (now (names .exit)) (now (formulas .exit)) (now (rows .exit)) (now (left .exit)) (now (right .exit))) r ⌝ }
 {
-    judge(text, names, formulas, rows, left, right)
+    judge(text, names, formulas, rows, left, right).answer
 }
 
 // For C: the answer alone, with tables of its own.
@@ -120,5 +135,5 @@ pub extern "C" fn elk_check(text: &[u8]) -> Answer
         &mut rows,
         &mut left,
         &mut right,
-    )
+    ).answer
 }

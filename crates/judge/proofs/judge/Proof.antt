@@ -4,7 +4,7 @@ use mathlib.Core.Path.{sym, ap, _∙_}
 use borrow.Author.Needs.{needs}
 use Rattle.format.specs.Tables.{tooShort}
 use Rattle.run.specs.Lent.{five, lengths}
-use Rattle.judge.proofs.Whole.{judged-short, judges-cleared, judges-same, clear-lengths, clear-zeros}
+use Rattle.judge.proofs.Whole.{judged-short, cleared-file, judges-same, clear-lengths, clear-zeros}
 use Rattle.judge.proofs.judge.Statement.{statement}
 use Rattle.judge.proofs.judge.Tie as tie
 
@@ -13,6 +13,9 @@ too-short-requires c κs = search needs
 
 clear-all-requires : tie.Need-clear-all-requires
 clear-all-requires c κs = search needs
+
+none-requires : tie.Need-none-requires
+none-requires c κs = search needs
 
 same-length : tie.Need-same-length
 same-length c = search needs
@@ -31,12 +34,12 @@ same-length-5 c = search needs
 
 returns : tie.Need-returns
 returns c =
-    let cleared = c .before .before .before .before .before .before .before .before .before .before .before in
+    let cleared = c .before .before .before .before .before .before .before .before .before .before .before .before in
     let tested = cleared .before .before .before .before .before .before in
     let args = tested .before .before .before .before .before .before .before .args in
     let lent = lengths (five (args .names .now) (args .formulas .now) (args .rows .now) (args .left .now) (args .right .now)) in
-    let short = judged-short (args .text .now) lent (sym (tested .too-short .ensures) ∙ c .if1 .taken) in
-    judges-cleared (args .text .now) lent _ _ short (λ e. omega (arith, e)) (cleared .clear-all .ensures)
+    let short = judged-short (args .text .now) lent (sym (tested .too-short .ensures) ∙ c .before .if1 .taken) in
+    cleared-file (args .text .now) lent _ _ short (λ e. omega (arith, e)) (cleared .clear-all .ensures) (c .none .ensures)
 
 run-or-clear-requires : tie.Need-run-or-clear-requires
 run-or-clear-requires c κs =
@@ -78,6 +81,7 @@ judge-spec =
     (tie.spec
     too-short-requires
     clear-all-requires
+    none-requires
     same-length
     same-length-2
     same-length-3

@@ -31,11 +31,12 @@ same-length-5 c = search needs
 
 returns : tie.Need-returns
 returns c =
-    let finished = c .before .before in
+    let tested = c .before in
+    let finished = tested .before .before in
     let ran = finished .before .before .before .before .before .before .before .before .before .before .before .before in
     let entry = ran .before .before .before .before .before .before .before .before .before .before .before .before .before in
     let fresh = fresh-tables _ (entry .pre .0) (entry .pre .1) refl in
-    judges-kept (entry .pre .0) fresh (ran .run .ensures) (finished .finish .ensures) (c .if1 .taken)
+    judges-kept (entry .pre .0) fresh (ran .run .ensures) (finished .finish .ensures) (tested .if1 .taken)
 
 clear-all-requires : tie.Need-clear-all-requires
 clear-all-requires c κs = search needs
@@ -55,15 +56,18 @@ same-length-9 c = search needs
 same-length-10 : tie.Need-same-length-10
 same-length-10 c = search needs
 
+none-requires : tie.Need-none-requires
+none-requires c κs = search needs
+
 returns-2 : tie.Need-returns-2
 returns-2 c =
-    let cleared = c .before .before .before .before .before .before .before .before .before .before in
+    let cleared = c .before .before .before .before .before .before .before .before .before .before .before in
     let tested = cleared .before .before .before .before .before .before in
     let finished = tested .before .before in
     let ran = finished .before .before .before .before .before .before .before .before .before .before .before .before in
     let entry = ran .before .before .before .before .before .before .before .before .before .before .before .before .before in
     let fresh = fresh-tables _ (entry .pre .0) (entry .pre .1) refl in
-    judges-again-clear (entry .pre .0) fresh (ran .run .ensures) (finished .finish .ensures) (tested .if1 .left) (cleared .clear-all .ensures)
+    judges-again-clear (entry .pre .0) fresh (ran .run .ensures) (finished .finish .ensures) (tested .if1 .left) (cleared .clear-all .ensures) (c .none .ensures)
 
 pub run-or-clear-spec : {M : Type 1} → statement M
 run-or-clear-spec =
@@ -79,6 +83,7 @@ run-or-clear-spec =
     same-length-5
     returns
     clear-all-requires
+    none-requires
     same-length-6
     same-length-7
     same-length-8
