@@ -9,7 +9,8 @@ use Rattle.format.specs.File.{File, noFile}
 use Rattle.format.specs.Tables.{Lent, padded, encode}
 use Rattle.format.specs.Judged.{Ruling, accepted, turnedDown, next, judged, beginning, heldBy}
 use Rattle.words.specs.Words.{wordsIn}
-use Rattle.words.specs.Call.{noRoom, fitted, kept, wordsJudged, wordsLeft, wordsContents}
+use Rattle.writer.specs.Writing.{noRoom}
+use Rattle.words.specs.Call.{fitted, kept, wordsJudged, wordsLeft, wordsContents}
 
 -- what a call answers and leaves
 pub record Leaves (lent : Lent) (space : ℕ) (text : Bytes) (ruling : Ruling) (words : Bytes) (tables : File) : Type 0 where

@@ -12,7 +12,8 @@ use Rattle.format.specs.Judged.{Ruling, accepted, turnedDown, beginning, judged
 use Rattle.format.proofs.Booleans.{or-false}
 use Rattle.words.specs.Told.{toldIn}
 use Rattle.words.specs.Words.{wordsIn}
-use Rattle.words.specs.Call.{noRoom, fitted, kept, wordsJudged, wordsLeft, untilZero}
+use Rattle.writer.specs.Writing.{noRoom}
+use Rattle.words.specs.Call.{fitted, kept, wordsJudged, wordsLeft, untilZero}
 use Rattle.words.proofs.NoZero.{NoZero}
 use Rattle.words.proofs.Accepted.{words-tell-rows, words-without-zero}
 

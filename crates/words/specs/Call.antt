@@ -7,11 +7,8 @@ use lib.ListN.{length}
 use Rattle.format.specs.Text.{Bytes}
 use Rattle.format.specs.Tables.{Lent, padded, Contents}
 use Rattle.format.specs.Judged.{Ruling, accepted, turnedDown, judged, beginning, heldBy}
+use Rattle.writer.specs.Writing.{noRoom}
 use Rattle.words.specs.Words.{wordsIn}
-
--- the number of a lent space that is too small
-abbrev pub noRoom : ℕ
-noRoom = 14
 
 -- the ruling on a file, and after all its numbers 14, with line 0, where the words are longer than the lent space
 abbrev pub fitted : ℕ → Bytes → Ruling → Ruling

@@ -4,42 +4,43 @@ use Prim.Native.Nat.{ℕ, _+_, _-_, _≤_, _<_}
 use native.Mathlib.Omega.{arith}
 use mathlib.Core.Bool.{Bool, true, false, cond, false≢true}
 use mathlib.Core.List.{List, [], _∷_, _++_, append-assoc, append-nil}
+use mathlib.Core.Option.{none, some}
 use mathlib.Core.Path.{_≡_, refl, sym, ap, subst, _∙_}
-use borrow.Author.Tests.{le-leb, lt-leb, leb-true, leb-false}
-use lib.Dec.{leb}
+use borrow.Author.Tests.{lt-ltb, le-ltb, ltb-true, ltb-false}
+use lib.Dec.{ltb}
 use lib.ListN.{length, take, drop, length-append, length-drop}
 use lib.Seq.{take-at, length-take-le, take-append-add, take-append-le}
 use Rattle.format.specs.Text.{Bytes}
 use Rattle.writer.specs.declared.Written.{Written}
-use Rattle.writer.specs.Writing.{after, Writes}
+use Rattle.writer.specs.Writing.{noRoom, writtenAs, after, Writes}
 
 module _ (space at count : ℕ) where
   reach : Bool → Written
-  reach b = cond b (Written.To (at + count)) Written.NoRoom
+  reach full = writtenAs (cond full (some noRoom) none) (at + count)
 
   pub after-fits : at + count ≤ space → after space (Written.To at) count ≡ Written.To (at + count)
   unfolding reach
-  after-fits h = ap reach (le-leb (at + count) space h)
+  after-fits h = ap reach (le-ltb space (at + count) h)
 
   pub after-full : space < at + count → after space (Written.To at) count ≡ Written.NoRoom
   unfolding reach
-  after-full h = ap reach (lt-leb (at + count) space h)
+  after-full h = ap reach (lt-ltb space (at + count) h)
 
 -- so many bytes and then so many are so many together
 after-after : (space : ℕ) (w : Written) (m n : ℕ) → after space (after space w m) n ≡ after space w (m + n)
 after-after space Written.NoRoom m n = refl
-after-after space (Written.To at) m n = by (leb (at + m) space) refl
+after-after space (Written.To at) m n = by (ltb space (at + m)) refl
   where
     together : at + m + n ≡ at + (m + n)
     together = omega arith
 
-    by : (fits : Bool) → leb (at + m) space ≡ fits → after space (after space (Written.To at) m) n ≡ after space (Written.To at) (m + n)
-    by false e =
-        let full = leb-false (at + m) space e in
-        ap (λ (w : Written). after space w n) (after-full space at m full) ∙ sym (after-full space at (m + n) (omega (arith, full)))
+    by : (full : Bool) → ltb space (at + m) ≡ full → after space (after space (Written.To at) m) n ≡ after space (Written.To at) (m + n)
     by true e =
-        ap (λ (w : Written). after space w n) (after-fits space at m (leb-true (at + m) space e))
-        ∙ ap (λ (k : ℕ). cond (leb k space) (Written.To k) Written.NoRoom) together
+        let full = ltb-true space (at + m) e in
+        ap (λ (w : Written). after space w n) (after-full space at m full) ∙ sym (after-full space at (m + n) (omega (arith, full)))
+    by false e =
+        ap (λ (w : Written). after space w n) (after-fits space at m (ltb-false space (at + m) e))
+        ∙ ap (λ (k : ℕ). writtenAs (cond (ltb space k) (some noRoom) none) k) together
 
 -- words in the place of as many bytes of a text
 pub placed-writes : (words text text′ : Bytes) (at : ℕ) → at + length words ≤ length text
@@ -139,13 +140,13 @@ writes-start text = placed-writes [] text text 0 (omega arith) refl refl
 pub writes-within : {words text text′ : Bytes} {w : Written} {end : ℕ} → Writes words text w text′ (Written.To end) → end ≤ length text
 writes-within {words} {text} {text′} {w} {end} p = by w (p .reached)
   where
-    to : (at : ℕ) (fits : Bool) → leb (at + length words) (length text) ≡ fits
-        → Written.To end ≡ cond fits (Written.To (at + length words)) Written.NoRoom → end ≤ length text
-    to at true f e = let same : end ≡ at + length words = cc e in omega (arith, leb-true (at + length words) (length text) f)
-    to at false f e = absurd (false≢true (ap reaches (sym e)))
+    to : (at : ℕ) (full : Bool) → ltb (length text) (at + length words) ≡ full
+        → Written.To end ≡ writtenAs (cond full (some noRoom) none) (at + length words) → end ≤ length text
+    to at false f e = let same : end ≡ at + length words = cc e in omega (arith, ltb-false (length text) (at + length words) f)
+    to at true f e = absurd (false≢true (ap reaches (sym e)))
 
     by : (v : Written) → Written.To end ≡ after (length text) v (length words) → end ≤ length text
-    by (Written.To at) e = to at (leb (at + length words) (length text)) refl e
+    by (Written.To at) e = to at (ltb (length text) (at + length words)) refl e
     by Written.NoRoom e = absurd (false≢true (ap reaches (sym e)))
 
 -- ---- the rest of a lent text
@@ -173,18 +174,18 @@ module _ (text : Bytes) (start : ℕ) (inside : start ≤ length text) where
   front-length = length-take-le start text inside
 
   reach-on : (count : ℕ) → further-on start (after (length text - start) (Written.To 0) count) ≡ after (length text) (Written.To start) count
-  reach-on count = by (leb (0 + count) (length text - start)) refl
+  reach-on count = by (ltb (length text - start) (0 + count)) refl
     where
-      by : (fits : Bool) → leb (0 + count) (length text - start) ≡ fits
+      by : (full : Bool) → ltb (length text - start) (0 + count) ≡ full
           → further-on start (after (length text - start) (Written.To 0) count) ≡ after (length text) (Written.To start) count
-      by true e =
-          let h = leb-true (0 + count) (length text - start) e in
+      by false e =
+          let h = ltb-false (length text - start) (0 + count) e in
           let same : start + (0 + count) ≡ start + count = omega arith in
           ap (further-on start) (after-fits (length text - start) 0 count h)
           ∙ ap Written.To same
           ∙ sym (after-fits (length text) start count (omega (arith, h, inside)))
-      by false e =
-          let h = leb-false (0 + count) (length text - start) e in
+      by true e =
+          let h = ltb-true (length text - start) (0 + count) e in
           ap (further-on start) (after-full (length text - start) 0 count h) ∙ sym (after-full (length text) start count (omega (arith, h, inside)))
 
   -- what is written at the start of the rest is written after what stands before it

@@ -1,0 +1,18 @@
+-- The promise of the call that tells a file's rows in words, for any text, any lent tables and any lent text.
+use Prim.Native.Nat.{ℕ}
+use mathlib.Core.Path.{_≡_}
+use Rattle.format.specs.Text.{Bytes}
+use Rattle.format.specs.Tables.{Contents, Lent}
+use Rattle.format.specs.Judged.{numberIn, lineIn, ClaimFails}
+use Rattle.answers.specs.Answers.{filled}
+use Rattle.answers.specs.declared.Answer.{Answer}
+use Rattle.words.specs.Call.{wordsJudged, wordsLeft, wordsContents}
+
+-- Number and line are those of the definition; the lent text at exit holds exactly the words of the file and zeros after them, and
+-- the tables the file, or zeros alone; and a text whose rows are told makes no claim that fails.
+pub record Tells (text : Bytes) (lent : Lent) (space : ℕ) (t : Contents) (words : Bytes) (answer : Answer) : Type 0 where
+  pub number : answer .number ≡ numberIn (wordsJudged lent space text)
+  pub line : answer .line ≡ lineIn (wordsJudged lent space text)
+  pub words-told : words ≡ wordsLeft lent space text
+  pub tables : t ≡ filled lent (wordsContents lent space text)
+  pub claim-holds : answer .number ≡ 0 → ClaimFails text → ⊥
