@@ -15,7 +15,7 @@ use Rattle.tables.specs.Records.{recordFrom}
 use Rattle.tables.specs.Holding.{Formulas}
 use Rattle.tables.specs.declared.records.NodeRecord.{NodeRecord}
 use Rattle.tables.proofs.Encoded.{node-held}
-use Rattle.words.specs.Told.{Named, falsum, atom, neg, conj, disj, imp, named, namedAt}
+use Rattle.words.specs.Told.{Named, atom, neg, conj, disj, imp, named, namedAt}
 use Rattle.words.proofs.Nodes.{Earlier, node-earlier}
 use Rattle.writer.specs.Names.{spelling}
 use Rattle.phrases.specs.Formulas.{wordBefore, formulaBy, tableFormula}
