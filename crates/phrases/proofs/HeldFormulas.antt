@@ -78,6 +78,7 @@ module _ (text : Bytes) (names table : List ℕ) where
           ∙ by-node i (heldNode b i) (node-earlier (held .good) i h) (λ j k. below n j (omega arith) (omega arith))
           ∙ ap (named known) (sym (decoded-node (good-held (held .good)) i h))
 
+-- the formula of every number
 pub held-formula : (text : Bytes) (names formulas : List ℕ) (known : List Bytes) (b : Body) → Formulas b formulas
     → ((k : ℕ) → k < b .atoms → spelling text names k ≡ getD known k [])
     → (i : ℕ) → i < length (b .nodes) → tableFormula text names formulas i ≡ namedAt known (b .nodes) i

@@ -90,8 +90,8 @@ record GoodRow (known : ℕ) (r : Row) : Type 0 where
   present-premises : (i : ℕ) → i ∈ r .premises → i < absent
 
 -- a row that passes its tests
-passing-row : {b : Body} → GoodBody b → (r : Row) → first (bodyTests b r) ≡ none → GoodRow (length (b .nodes)) r
-passing-row {b} g r ok =
+passing-row : (b : Body) (r : Row) → first (bodyTests b r) ≡ none → GoodRow (length (b .nodes)) r
+passing-row b r ok =
     let passed = passed-row b r ok in
     let kinds = ten-exactly b r .0 (passes 10 (bodyTests b r) ok) .premises in
     record {
@@ -106,11 +106,12 @@ passing-row {b} g r ok =
     earlier : any (notEarlier (length (b .rows))) (r .premises) ≡ false → (i : ℕ) → i ∈ r .premises → i < length (b .rows)
     earlier e i m = leb-false (length (b .rows)) i (any-false (notEarlier (length (b .rows))) (r .premises) e i m)
 
+-- every row of a good body
 good-row : {b : Body} → GoodBody b → (r : Row) → r ∈ b .rows → GoodRow (length (b .nodes)) r
 good-row (atoms n h) r m = absurd (List·Memᴰ·not-nil m)
 good-row (formula {b} g none-yet node ok) r m = absurd (List·Memᴰ·not-nil (subst (λ (rs : List Row). r ∈ rs) none-yet m))
 good-row (GoodBody.row {b} g q ok) r m =
-    ⊎-elim (λ k. good-row g r k) (λ k. subst (GoodRow (length (b .nodes))) (sym (List·Memᴰ·eq-of-singleton k)) (passing-row g q ok))
+    ⊎-elim (λ k. good-row g r k) (λ k. subst (GoodRow (length (b .nodes))) (sym (List·Memᴰ·eq-of-singleton k)) (passing-row b q ok))
     (List·Memᴰ·append-cases (b .rows) m)
 
 -- ---- the parts of a row
@@ -132,6 +133,7 @@ same-map : {X Y : Type 0} (f g : X → Y) (xs : List X) → ((x : X) → x ∈ x
 same-map f g [] h = refl
 same-map f g (x ∷ xs) h = ap₂ (λ y ys. y ∷ ys) (h x (List·Memᴰ·head refl)) (same-map f g xs (λ y m. h y (List·Memᴰ·tail m)))
 
+-- the pieces of two lists, one behind the other
 joined-append : (ps qs : List Bytes) → joined ps ++ joined qs ≡ joined (ps ++ qs)
 joined-append [] qs = refl
 joined-append (p ∷ ps) qs = append-assoc p (joined ps) (joined qs) ∙ ap (λ (rest : Bytes). p ++ rest) (joined-append ps qs)
@@ -148,15 +150,18 @@ module _ {text : Bytes} {f : File} {names formulas table left right : List ℕ} 
   abbrev namedBy : ℕ → Named
   namedBy i = namedAt (namesOf f) (f .body .nodes) i
 
+  -- the name of an atom
   name-told : (k : ℕ) → k < f .body .atoms → spelling text names k ≡ getD (namesOf f) k []
   name-told k h =
       let inside : k < length (f .names) = omega (arith, held .named .count) in
       spelling-held text names k (f .names) noName (held .names-table) inside (held .names-in _ (in-getD (f .names) k noName inside))
       ∙ sym (List·getD-map (λ (n : Name). n .name) (f .names) k noName)
 
+  -- the formula of a number, as the tables tell it
   formula-told : (i : ℕ) → i < length (f .body .nodes) → tableFormula text names formulas i ≡ namedBy i
   formula-told = held-formula text names formulas (namesOf f) (f .body) (record { good = held .good; table = held .nodes }) name-told
 
+  -- the principal formula
   principal-told : (p : Option ℕ) → ((i : ℕ) → i ∈ listed p → i < length (f .body .nodes))
       → tablePrincipal text names formulas (orAbsent p) ≡ (namedBy <$> p)
   unfolding tablePrincipal
@@ -166,6 +171,7 @@ module _ {text : Bytes} {f : File} {names formulas table left right : List ℕ} 
       ap (λ (t : Bool). tableFormula text names formulas <$> cond t none (some i)) (ne-eqb i absent (λ e. omega (arith, good-held (held .good) .few-nodes)))
       ∙ ap some (formula-told i known)
 
+  -- a side of known formulas
   side-told : (kind : Kind) (side : Side) (is : List ℕ) → unknownFormula (f .body) is ≡ false
       → tableSide text names formulas kind side is ≡ sideWords kind side (map namedBy is)
   unfolding tableSide
@@ -197,6 +203,7 @@ module _ {text : Bytes} {f : File} {names formulas table left right : List ℕ} 
     abbrev sequent : List Bytes
     sequent = sideWords kind Side.left (map namedBy (r .left)) ∷ bytes "; " ∷ sideWords kind Side.right (map namedBy (r .right)) ∷ bytes ".\n" ∷ []
 
+    -- each of the three, as the tables tell it
     heading-told : headingWords n (codeOf (r .rule)) ≡ joined heading
     unfolding headingWords
     heading-told = ap (λ (meaning : Bytes). joined (bytes "Row " ∷ decimal n ∷ bytes ": " ∷ meaning ∷ bytes "; " ∷ [])) (meaning-at (r .rule))
