@@ -2,3 +2,4 @@
 mod RecordWords
 mod TableFormulas
 mod TableRows
+pub mod HeldFormulas
