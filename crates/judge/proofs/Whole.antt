@@ -31,6 +31,14 @@ use Rattle.answers.proofs.Ends.{ends}
 use Rattle.judge.specs.Contract.{Judges, Filed, JudgesFile}
 use Rattle.judge.specs.declared.Judged.{Judged}
 
+-- clear tables hold no file
+pub nothing-held : (lent : Lent) → clear lent ≡ filled lent (encode noFile)
+nothing-held lent =
+    λ i. five (none-in (lent .names) i) (none-in (lent .formulas) i) (none-in (lent .rows) i) (none-in (lent .left) i) (none-in (lent .right) i)
+  where
+    none-in : (len : ℕ) → replicate {A = ℕ} len 0 ≡ padded len []
+    none-in len = ap (λ (m : ℕ). replicate m 0) (sym (sub-zero len))
+
 module _ (text : Bytes) (lent : Lent) where
   by-tests : (o : Option ℕ) → first (wholeTests lent text) ≡ o → judged lent text ≡ orWhole o (answerFrom top text noFile)
   unfolding judged
@@ -66,22 +74,20 @@ module _ (text : Bytes) (lent : Lent) where
         record {
           number = sym (ap numberIn e);
           line = sym (ap lineIn e);
-          tables = cleared ∙ nothing ∙ ap (filled lent) (sym (contents-by (turnedDown (answer .number) (answer .line)) e));
+          tables = cleared ∙ nothing-held lent ∙ ap (filled lent) (sym (contents-by (turnedDown (answer .number) (answer .line)) e));
           claim-holds = λ z. absurd (refusal z);
         }
-      where
-        none-in : (len : ℕ) → replicate {A = ℕ} len 0 ≡ padded len []
-        none-in len = ap (λ (m : ℕ). replicate m 0) (sym (sub-zero len))
-
-        nothing : clear lent ≡ filled lent (encode noFile)
-        nothing =
-            λ i. five (none-in (lent .names) i) (none-in (lent .formulas) i) (none-in (lent .rows) i) (none-in (lent .left) i)
-            (none-in (lent .right) i)
 
     -- the same, with no counts
     pub cleared-file : {counts : Counts} → judged lent text ≡ turnedDown (answer .number) (answer .line) → (answer .number ≡ 0 → ⊥)
         → t ≡ clear lent → counts ≡ noCounts → JudgesFile text lent t (record { answer = answer; counts = counts })
-    cleared-file e refusal cleared empty = record { judges = judges-cleared e refusal cleared; filed = λ z. absurd (refusal z); none-filed = λ _. empty }
+    cleared-file e refusal cleared empty =
+        record {
+          judges = judges-cleared e refusal cleared;
+          accepts = λ z. absurd (refusal z);
+          filed = λ z. absurd (refusal z);
+          none-filed = λ _. empty;
+        }
 
   -- an acceptance, with the tables that the run left
   module _ {s : State} {t : Memory} {answer : Answer} (a : Accepts text s t answer) where
@@ -159,6 +165,7 @@ module _ {text : Bytes} {ran : Ran} {before after : Memory} {answer : Answer} (e
       kept a =
           record {
             judges = judges-accepted text (lengths (fiveOf before)) (a .1) (a .0) same;
+            accepts = λ _. a .0 ∙ a .1 .line;
             filed = λ _. accepted-file text (lengths (fiveOf before)) (a .1);
             none-filed = λ n. absurd (n e);
           }

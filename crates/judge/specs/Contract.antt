@@ -5,7 +5,7 @@ use Rattle.equilibrium.specs.Meaning.{_∈_}
 use Rattle.format.specs.File.{Name, File}
 use Rattle.format.specs.Tables.{Contents, Lent, least, encode}
 use Rattle.format.specs.Good.{GoodBody, GoodNames}
-use Rattle.format.specs.Judged.{numberIn, lineIn, next, beginning, judged, contents, ClaimFails}
+use Rattle.format.specs.Judged.{accepted, numberIn, lineIn, next, beginning, judged, contents, ClaimFails}
 use Rattle.counts.specs.Counts.{countsOf, noCounts}
 use Rattle.counts.specs.declared.Counts.{Counts}
 use Rattle.tables.specs.Names.{StandsIn}
@@ -35,6 +35,7 @@ pub record Filed (text : Bytes) (t : Contents) (counts : Counts) : Type 0 where
 -- the same promise, with the file of a text that is accepted, and no counts of one that is refused
 pub record JudgesFile (text : Bytes) (lent : Lent) (t : Contents) (r : Judged) : Type 0 where
   pub judges : Judges text lent t (r .answer)
+  pub accepts : r .answer .number ≡ 0 → judged lent text ≡ accepted (r .answer .line)
   pub filed : r .answer .number ≡ 0 → Filed text t (r .counts)
   pub none-filed : (r .answer .number ≡ 0 → ⊥) → r .counts ≡ noCounts
 

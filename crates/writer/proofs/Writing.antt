@@ -149,6 +149,24 @@ writes-within {words} {text} {text′} {w} {end} p = by w (p .reached)
     by (Written.To at) e = to at (ltb (length text) (at + length words)) refl e
     by Written.NoRoom e = absurd (false≢true (ap reaches (sym e)))
 
+module _ {words text text′ : Bytes} {at : ℕ} where
+  -- what was written ends so many bytes further on
+  pub writes-end : {end : ℕ} → Writes words text (Written.To at) text′ (Written.To end) → end ≡ at + length words
+  writes-end {end} p = by (ltb (length text) (at + length words)) (p .reached)
+    where
+      by : (full : Bool) → Written.To end ≡ writtenAs (cond full (some noRoom) none) (at + length words) → end ≡ at + length words
+      by false e = cc e
+      by true e = absurd (false≢true (ap reaches (sym e)))
+
+  -- there was no room, since there is none for all of the words
+  pub writes-full : Writes words text (Written.To at) text′ Written.NoRoom → length text < at + length words
+  writes-full p = by (ltb (length text) (at + length words)) refl (p .reached)
+    where
+      by : (full : Bool) → ltb (length text) (at + length words) ≡ full → Written.NoRoom ≡ writtenAs (cond full (some noRoom) none) (at + length words)
+          → length text < at + length words
+      by true f e = ltb-true (length text) (at + length words) f
+      by false f e = absurd (false≢true (ap reaches e))
+
 -- ---- the rest of a lent text
 
 -- so many bytes further on
