@@ -1,5 +1,6 @@
 /* Times the proved checker beside the unverified one of fast.c, on accepted files near the format's limits: the same texts, lent
- * tables and process, through the same signature. Every call of either clears the tables first. */
+ * tables and process, through the same signature. Every call of either clears the tables first. Some files are also told in words, in
+ * a lent text that these fill. */
 #include <stdarg.h>
 #include <stdbool.h>
 #include <stdio.h>
@@ -9,8 +10,9 @@
 
 #include "govelamuth.h"
 
-/* The entry of fast.c, which is compiled under this name. */
+/* The entries of fast.c, which is compiled under these names. */
 __typeof__(elk_judge) fast_judge;
+__typeof__(elk_words) fast_words;
 
 /* ---- files written line by line */
 
@@ -292,14 +294,15 @@ static void many_formulas(struct file *f, int rounds) {
 static const struct shape {
     const char *name;
     void (*write)(struct file *, int rounds);
+    const char *told; /* its name where it is told in words, if it is */
 } shapes[] = {
-    {"short rows", short_rows},
-    {"sides of 64", wide_sides},
-    {"deep chain", deep_chain},
-    {"unst, 16 atoms", unstable_16},
-    {"unst, 63 atoms", unstable_63},
-    {"refutations", refutations},
-    {"many formulas", many_formulas},
+    {"short rows", short_rows, "words, short"},
+    {"sides of 64", wide_sides, "words, wide"},
+    {"deep chain", deep_chain, NULL},
+    {"unst, 16 atoms", unstable_16, NULL},
+    {"unst, 63 atoms", unstable_63, NULL},
+    {"refutations", refutations, "words, nested"},
+    {"many formulas", many_formulas, NULL},
 };
 enum { SHAPES = sizeof shapes / sizeof *shapes };
 
@@ -388,6 +391,55 @@ static struct times times_of(const struct text *t) {
     return best;
 }
 
+/* ---- both writers on one text */
+
+/* Words grow faster than their file where formulas nest, so the files that are told are smaller ones. */
+enum { TOLD_BYTES = MOST_BYTES / 4, MOST_WORDS = 1 << 20 };
+
+static uint8_t proved_words[MOST_WORDS], fast_written[MOST_WORDS];
+
+static struct elk_answer told_by(__typeof__(elk_words) *tell, const struct text *t, struct tables *lent, uint8_t *words, size_t length) {
+    return tell((const uint8_t *)t->bytes, t->length, lent->names, 128, lent->formulas, 3 * MOST_FORMULAS, lent->rows, 8 * MOST_ROWS,
+                lent->left, MOST_ENTRIES, lent->right, MOST_ENTRIES, words, length);
+}
+
+/* The length of the words, which both must write alike. */
+static size_t agreed_words(const struct shape *shape, const struct text *t) {
+    struct elk_answer fast = told_by(fast_words, t, &fast_tables, fast_written, MOST_WORDS);
+    size_t length = fast.number == 0 ? strnlen((const char *)fast_written, MOST_WORDS) : 0;
+    memset(proved_words, 0xa5, sizeof proved_words);
+    struct elk_answer proved = told_by(elk_words, t, &proved_tables, proved_words, length);
+    if (fast.number != 0 || proved.number != 0 || memcmp(proved_words, fast_written, length) != 0) {
+        fprintf(stderr, "bench: %s: the words differ, proved %u, unverified %u\n", shape->told, proved.number, fast.number);
+        exit(1);
+    }
+    return length;
+}
+
+static double microseconds_told(__typeof__(elk_words) *tell, const struct text *t, struct tables *lent, uint8_t *words, size_t length) {
+    struct timespec start, end;
+    clock_gettime(CLOCK_MONOTONIC, &start);
+    told_by(tell, t, lent, words, length);
+    clock_gettime(CLOCK_MONOTONIC, &end);
+    return (double)(end.tv_sec - start.tv_sec) * 1e6 + (double)(end.tv_nsec - start.tv_nsec) / 1e3;
+}
+
+static struct times times_told(const struct text *t, size_t length) {
+    struct times best = {true, 1e9, 1e9};
+    for (int i = 0; i < REPETITIONS; i++) {
+        double proved = microseconds_told(elk_words, t, &proved_tables, proved_words, length);
+        double fast = microseconds_told(fast_words, t, &fast_tables, fast_written, length);
+        best.proved = proved < best.proved ? proved : best.proved;
+        best.fast = fast < best.fast ? fast : best.fast;
+    }
+    return best;
+}
+
+static void print_times(const char *name, size_t bytes, const struct file *f, struct times best) {
+    printf("%-16s %7zu %6d %9d %6d %10.1f %11.1f %7.2f\n", name, bytes, f->atoms, f->formulas, f->rows, best.proved, best.fast,
+           best.proved / best.fast);
+}
+
 int main(void) {
     static struct file file;
     static struct text text;
@@ -405,10 +457,14 @@ int main(void) {
                 continue;
             }
             agree(&shapes[i], &text);
-            struct times best = times[i][j] = times_of(&text);
+            times[i][j] = times_of(&text);
             if (full_size)
-                printf("%-16s %7zu %6d %9d %6d %10.1f %11.1f %7.2f\n", shapes[i].name, text.length, file.atoms, file.formulas,
-                       file.rows, best.proved, best.fast, best.proved / best.fast);
+                print_times(shapes[i].name, text.length, &file, times[i][j]);
+        }
+    for (int i = 0; i < SHAPES; i++)
+        if (shapes[i].told != NULL && largest(&shapes[i], TOLD_BYTES, &file, &text)) {
+            size_t length = agreed_words(&shapes[i], &text);
+            print_times(shapes[i].told, length, &file, times_told(&text, length));
         }
 
     /* A shape whose first rows alone are larger than a size has no time there. */

@@ -12,7 +12,7 @@ enum { ATOMS = 64, FORMULAS = 1024, ROWS = 2048, ON_SIDE = 64, ENTRIES = 16384, 
 
 enum {
     ACCEPTED, SHORT_TABLE, TOO_LONG, BAD_LINE, OUT_OF_ORDER, FULL, BAD_NAME, NO_SUCH_ITEM, FORMULA_AGAIN, BAD_SIDE, WRONG_PREMISES,
-    WRONG_STEP, CLAIM_DIFFERS, NO_CLAIM
+    WRONG_STEP, CLAIM_DIFFERS, NO_CLAIM, NO_ROOM
 };
 
 /* ---- the rules */
@@ -704,18 +704,11 @@ static void clear(const struct table lent[TABLES]) {
         memset(lent[i].at, 0, lent[i].length * sizeof *lent[i].at);
 }
 
-struct elk_answer elk_judge(const uint8_t *text, size_t text_length,
-                            uint16_t *names, size_t names_length,
-                            uint16_t *formulas, size_t formulas_length,
-                            uint16_t *rows, size_t rows_length,
-                            uint16_t *left, size_t left_length,
-                            uint16_t *right, size_t right_length) {
-    struct table lent[TABLES] = {
-        {names, names_length}, {formulas, formulas_length}, {rows, rows_length}, {left, left_length}, {right, right_length},
-    };
+/* Judges a text in the lent tables, and counts the rows of an accepted one. */
+static struct elk_answer judged(const uint8_t *text, size_t text_length, const struct table lent[TABLES], uint32_t *row_count) {
     clear(lent);
-    if (names_length < 2 * ATOMS || formulas_length < 3 * FORMULAS || rows_length < 8 * ROWS || left_length < ENTRIES
-        || right_length < ENTRIES)
+    if (lent[0].length < 2 * ATOMS || lent[1].length < 3 * FORMULAS || lent[2].length < 8 * ROWS || lent[3].length < ENTRIES
+        || lent[4].length < ENTRIES)
         return (struct elk_answer){SHORT_TABLE, 0};
     if (text_length > BYTES)
         return (struct elk_answer){TOO_LONG, 0};
@@ -726,19 +719,192 @@ struct elk_answer elk_judge(const uint8_t *text, size_t text_length,
     c.end = text + text_length;
     while (c.end > text && c.end[-1] != '\n')
         c.end--;
-    c.names = (struct name *)names;
-    c.nodes = (struct node *)formulas;
-    c.rows = (struct row *)rows;
-    c.left = left;
-    c.right = right;
+    c.names = (struct name *)lent[0].at;
+    c.nodes = (struct node *)lent[1].at;
+    c.rows = (struct row *)lent[2].at;
+    c.left = lent[3].at;
+    c.right = lent[4].at;
     enter_words(&c);
     struct elk_answer answer = judge_lines(&c, text_length);
     if (answer.number != ACCEPTED)
         clear(lent);
+    *row_count = c.row_count;
     return answer;
+}
+
+struct elk_answer elk_judge(const uint8_t *text, size_t text_length,
+                            uint16_t *names, size_t names_length,
+                            uint16_t *formulas, size_t formulas_length,
+                            uint16_t *rows, size_t rows_length,
+                            uint16_t *left, size_t left_length,
+                            uint16_t *right, size_t right_length) {
+    struct table lent[TABLES] = {
+        {names, names_length}, {formulas, formulas_length}, {rows, rows_length}, {left, left_length}, {right, right_length},
+    };
+    uint32_t row_count;
+    return judged(text, text_length, lent, &row_count);
 }
 
 struct elk_answer elk_check(const uint8_t *text, size_t text_length) {
     uint16_t names[2 * ATOMS], formulas[3 * FORMULAS], rows[8 * ROWS], left[ENTRIES], right[ENTRIES];
     return elk_judge(text, text_length, names, 2 * ATOMS, formulas, 3 * FORMULAS, rows, 8 * ROWS, left, ENTRIES, right, ENTRIES);
+}
+
+/* ---- rows in words: written straight from the filled tables */
+
+struct phrase {
+    const char *words;
+    size_t length;
+};
+#define PHRASE(words) {words, sizeof words - 1}
+
+static const struct phrase meanings[RULES] = {
+    PHRASE("only atoms are given, so the negation of an atom that is not given holds by default"), /* def */
+    PHRASE("a given formula is itself one of the alternatives"), /* same */
+    PHRASE("two given parts are given together as their conjunction"), /* andl */
+    PHRASE("each of two parts is shown as an alternative, so their conjunction is one"), /* andr */
+    PHRASE("one more alternative is added to those already shown"), /* wr */
+    PHRASE("contradiction is dropped from the alternatives, as it never holds"), /* bot */
+    PHRASE("two alternatives are put together as their disjunction"), /* orr */
+    PHRASE("each part of a given disjunction is taken in turn, the second with the first as one more alternative"), /* orl */
+    PHRASE("an alternative is dropped, as its negation is given"), /* notl */
+    PHRASE("an implication takes the place of its second part among the alternatives, and its first part is no longer given"), /* impr */
+    PHRASE("an implication is given, as one row has its second part given with the first negated as an alternative, and one shows the first"), /* impl */
+    PHRASE("a formula is no longer given, and its negation is one more alternative"), /* notr */
+    PHRASE("a formula that the first row has as an alternative and the second row as given is cut out, and the rest is joined"), /* rcut */
+    PHRASE("the one set of atoms that is left as a model is not stable, as the second row shows, so any alternatives may stand"), /* unst */
+    PHRASE("the counter-case can be read off, as nothing but atoms, negated atoms and contradiction is left"), /* xini */
+    PHRASE("a double negation holds in the counter-case, as the single negation does not"), /* xnnl */
+    PHRASE("a double negation does not hold in the counter-case, as the single negation does"), /* xnnr */
+    PHRASE("a conjunction holds in the counter-case, as both its parts do"), /* xandl */
+    PHRASE("a conjunction does not hold in the counter-case, as its first part does not"), /* xandr1 */
+    PHRASE("a conjunction does not hold in the counter-case, as its second part does not"), /* xandr2 */
+    PHRASE("a disjunction does not hold in the counter-case, as neither of its parts does"), /* xorr */
+    PHRASE("a disjunction holds in the counter-case, as its first part does"), /* xorl1 */
+    PHRASE("a disjunction holds in the counter-case, as its second part does"), /* xorl2 */
+    PHRASE("an implication holds in the counter-case, as neither its first part nor the negation of its second part does"), /* ximpl1 */
+    PHRASE("an implication holds in the counter-case, as its second part does"), /* ximpl2 */
+    PHRASE("an implication holds in the counter-case, as the negation of its first part does"), /* ximpl3 */
+    PHRASE("an implication does not hold in the counter-case, as its first part does and its second part does not"), /* ximpr1 */
+    PHRASE("an implication does not hold in the counter-case, as the negation of its second part does and that of its first part does not"), /* ximpr2 */
+    PHRASE("a negated implication holds in the counter-case, as the negation of its second part does and that of its first part does not"), /* xnimpl */
+    PHRASE("a negated implication does not hold in the counter-case, as the negation of its first part does"), /* xnimpr1 */
+    PHRASE("a negated implication does not hold in the counter-case, as the negation of its second part does not"), /* xnimpr2 */
+    PHRASE("a negated conjunction holds in the counter-case, as the negation of its first part does"), /* xnandl1 */
+    PHRASE("a negated conjunction holds in the counter-case, as the negation of its second part does"), /* xnandl2 */
+    PHRASE("a negated conjunction does not hold in the counter-case, as the negation of neither part does"), /* xnandr */
+    PHRASE("a negated disjunction holds in the counter-case, as the negations of both its parts do"), /* xnorl */
+    PHRASE("a negated disjunction does not hold in the counter-case, as the negation of its first part does not"), /* xnorr1 */
+    PHRASE("a negated disjunction does not hold in the counter-case, as the negation of its second part does not"), /* xnorr2 */
+};
+
+/* The words of a list: before it, between its items, and in its place if it is empty. */
+struct listing {
+    struct phrase opening, between, empty;
+};
+
+static const struct listing premise_words = {PHRASE("from row "), PHRASE(" and row "), PHRASE("from no other row")};
+
+/* Left and right, of sequents and of refutations. */
+static const struct listing side_words[2][2] = {
+    {{PHRASE("if these are all that is given: "), PHRASE(", "), PHRASE("if nothing is given")},
+     {PHRASE("then in every equilibrium model at least one of these alternatives holds: "), PHRASE(", "),
+      PHRASE("then there is no equilibrium model")}},
+    {{PHRASE("there is a counter-case in here-and-there where all of these hold: "), PHRASE(", "),
+      PHRASE("there is a counter-case in here-and-there where nothing need hold")},
+     {PHRASE("and none of these holds: "), PHRASE(", "), PHRASE("and nothing need fail")}},
+};
+
+struct writer {
+    uint8_t *at, *end;
+    const uint8_t *text;
+    const struct name *names;
+    const struct node *nodes;
+};
+
+/* Each writer tells whether there was room. */
+static inline bool put(struct writer *w, const void *bytes, size_t length) {
+    if ((size_t)(w->end - w->at) < length)
+        return false;
+    memcpy(w->at, bytes, length);
+    w->at += length;
+    return true;
+}
+
+#define PUT(w, words) put(w, words, sizeof words - 1)
+
+static inline bool put_phrase(struct writer *w, struct phrase p) { return put(w, p.words, p.length); }
+
+static bool put_number(struct writer *w, uint32_t number) {
+    uint8_t digits[5], *first = digits + sizeof digits;
+    do
+        *--first = (uint8_t)('0' + number % 10);
+    while (number /= 10);
+    return put(w, first, (size_t)(digits + sizeof digits - first));
+}
+
+static bool put_formula(struct writer *w, uint16_t number) {
+    const struct node *n = &w->nodes[number];
+    switch (n->word) {
+    case BOT:
+        return PUT(w, "contradiction");
+    case ATOM:
+        return PUT(w, "\"") && put(w, w->text + w->names[n->first].start, w->names[n->first].length) && PUT(w, "\"");
+    case NOT:
+        return PUT(w, "not ") && put_formula(w, n->first);
+    case AND:
+        return PUT(w, "(") && put_formula(w, n->first) && PUT(w, " and ") && put_formula(w, n->second) && PUT(w, ")");
+    case OR:
+        return PUT(w, "(") && put_formula(w, n->first) && PUT(w, " or ") && put_formula(w, n->second) && PUT(w, ")");
+    default:
+        return PUT(w, "(if ") && put_formula(w, n->first) && PUT(w, " then ") && put_formula(w, n->second) && PUT(w, ")");
+    }
+}
+
+static bool put_side(struct writer *w, const struct listing *words, const uint16_t *side, size_t count) {
+    if (count == 0)
+        return put_phrase(w, words->empty);
+    for (size_t i = 0; i < count; i++)
+        if (!put_phrase(w, i == 0 ? words->opening : words->between) || !put_formula(w, side[i]))
+            return false;
+    return true;
+}
+
+static bool put_premises(struct writer *w, const uint16_t premises[2]) {
+    if (premises[0] == ABSENT)
+        return put_phrase(w, premise_words.empty);
+    return put_phrase(w, premise_words.opening) && put_number(w, premises[0])
+        && (premises[1] == ABSENT || (put_phrase(w, premise_words.between) && put_number(w, premises[1])));
+}
+
+static bool put_sentence(struct writer *w, uint32_t number, const struct row *r, const uint16_t *left, const uint16_t *right) {
+    const struct listing *words = side_words[r->rule >= FIRST_REFUTATION];
+    return PUT(w, "Row ") && put_number(w, number) && PUT(w, ": ") && put_phrase(w, meanings[r->rule]) && PUT(w, "; ")
+        && (r->principal == ABSENT ? PUT(w, "about no single formula") : PUT(w, "about the formula ") && put_formula(w, r->principal))
+        && PUT(w, "; ") && put_premises(w, r->premises) && PUT(w, "; ")
+        && put_side(w, &words[0], left + r->left_start, r->left_length) && PUT(w, "; ")
+        && put_side(w, &words[1], right + r->right_start, r->right_length) && PUT(w, ".\n");
+}
+
+struct elk_answer elk_words(const uint8_t *text, size_t text_length,
+                            uint16_t *names, size_t names_length,
+                            uint16_t *formulas, size_t formulas_length,
+                            uint16_t *rows, size_t rows_length,
+                            uint16_t *left, size_t left_length,
+                            uint16_t *right, size_t right_length,
+                            uint8_t *words, size_t words_length) {
+    struct table lent[TABLES] = {
+        {names, names_length}, {formulas, formulas_length}, {rows, rows_length}, {left, left_length}, {right, right_length},
+    };
+    uint32_t row_count = 0;
+    struct elk_answer answer = judged(text, text_length, lent, &row_count);
+    struct writer w = {words, words + words_length, text, (struct name *)names, (struct node *)formulas};
+    for (uint32_t i = 0; answer.number == ACCEPTED && i < row_count; i++)
+        if (!put_sentence(&w, i, (struct row *)rows + i, left, right)) {
+            clear(lent);
+            w.at = words;
+            answer = (struct elk_answer){NO_ROOM, 0};
+        }
+    memset(w.at, 0, (size_t)(w.end - w.at));
+    return answer;
 }

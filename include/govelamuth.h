@@ -1,7 +1,7 @@
 /* Govelamuth: the judging of a whole derivation file, for C.
  *
- * Both calls are proved to answer, for any bytes, what the specification says: number 0 with the line of the claim if the text
- * is accepted, else the number of a refusal with the line that it belongs to, 0 for numbers 1 and 2. If the number is 0, the
+ * All calls are proved to answer, for any bytes, what the specification says: number 0 with the line of the claim if the text
+ * is accepted, else the number of a refusal with the line that it belongs to, 0 for numbers 1, 2 and 14. If the number is 0, the
  * text's claim does not fail.
  *
  * They need no initialisation, keep no pointer, touch nothing but what is lent, use no heap and no global state, and so are
@@ -30,6 +30,7 @@ enum elk_number {
     ELK_WRONG_STEP = 11, /* no sets make the row an instance of its rule */
     ELK_CLAIM_DIFFERS = 12, /* the last row is not an ELK row with exactly these sides, or there is no row */
     ELK_NO_CLAIM = 13, /* the text ends with no C line */
+    ELK_NO_ROOM = 14, /* the lent text is too short for what is to be written */
 };
 
 struct elk_answer {
@@ -49,5 +50,19 @@ struct elk_answer elk_judge(const uint8_t *text, size_t text_length,
                             uint16_t *rows, size_t rows_length,
                             uint16_t *left, size_t left_length,
                             uint16_t *right, size_t right_length);
+
+/* The same, with the rows of the accepted file in words as well: one sentence for each row, in their order, each ended by a line
+ * feed, and then zeros to the end of the lent text. docs/FORMAT.md has the wording. Two accepted texts with equal words have the
+ * same rows, formula for formula, and no byte of the words is zero.
+ * If the text is accepted but its words are longer than the lent text, the answer is number 14 with line 0; room for exactly the
+ * words is enough. After any refusal, number 14 too, the lent text and the five tables are zeros alone. The lent text may have
+ * any length, 0 too; what it held before does not matter. It takes about STACK_FIGURE of stack. */
+struct elk_answer elk_words(const uint8_t *text, size_t text_length,
+                            uint16_t *names, size_t names_length,
+                            uint16_t *formulas, size_t formulas_length,
+                            uint16_t *rows, size_t rows_length,
+                            uint16_t *left, size_t left_length,
+                            uint16_t *right, size_t right_length,
+                            uint8_t *words, size_t words_length);
 
 #endif

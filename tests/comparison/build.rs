@@ -1,9 +1,9 @@
-//! Links the proved library, which `rt staticlib judge` writes.
+//! Links the proved library, which `rt staticlib tell` writes.
 
 fn main() {
     let package = std::env::var("CARGO_MANIFEST_DIR").expect("cargo gives the package's folder");
     let folder = format!("{package}/../../target/staticlib");
-    println!("cargo::rerun-if-changed={folder}/libjudge.a");
+    println!("cargo::rerun-if-changed={folder}/libtell.a");
     println!("cargo::rustc-link-search=native={folder}");
-    println!("cargo::rustc-link-lib=static=judge");
+    println!("cargo::rustc-link-lib=static=tell");
 }

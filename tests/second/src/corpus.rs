@@ -11,17 +11,20 @@ mod pairs;
 mod rows;
 mod steps;
 mod texts;
+mod words;
 
 use std::collections::BTreeMap;
 use std::path::Path;
 
-/// A text and the answer it earns. The name is `group/what_it_shows`.
+/// A text and the answer it earns. The name is `group/what_it_shows`. In some, what is
+/// printed where its words are asked for: the sentences, or number, tab, line.
 #[derive(Clone, Debug)]
 pub struct Case {
     pub name: String,
     pub text: Vec<u8>,
     pub number: u16,
     pub line: usize,
+    pub words: Option<Vec<u8>>,
 }
 
 impl Case {
@@ -40,6 +43,7 @@ pub fn cases() -> Vec<Case> {
         limits::cases(),
         steps::cases(),
         families::cases(),
+        words::cases(),
     ];
     let mut cases = groups.concat();
     cases.sort_by(|a, b| a.name.cmp(&b.name));
@@ -51,7 +55,11 @@ pub fn files() -> BTreeMap<String, Vec<u8>> {
     let cases = cases();
     let answer = |case: &Case| format!("{}\t{}\t{}\n", case.name, case.number, case.line);
     let answers: String = cases.iter().map(answer).collect();
-    let texts = cases.into_iter().map(|case| (format!("{}.txt", case.name), case.text));
+    let of_case = |case: Case| {
+        let words = case.words.map(|words| (format!("{}.words", case.name), words));
+        [(format!("{}.txt", case.name), case.text)].into_iter().chain(words)
+    };
+    let texts = cases.into_iter().flat_map(of_case);
     texts.chain([("answers.tsv".into(), answers.into_bytes())]).collect()
 }
 
@@ -67,7 +75,13 @@ pub fn write(folder: &Path) -> std::io::Result<()> {
 
 /// A case written out byte by byte.
 fn raw(name: &str, number: u16, line: usize, text: impl Into<Vec<u8>>) -> Case {
-    Case { name: name.into(), text: text.into(), number, line }
+    Case { name: name.into(), text: text.into(), number, line, words: None }
+}
+
+/// A refused case, whose number and line are printed in the place of its words too.
+fn untold(case: Case) -> Case {
+    let printed = format!("{}\t{}\n", case.number, case.line);
+    Case { words: Some(printed.into_bytes()), ..case }
 }
 
 /// A case written as the paper writes its whole file: ` / ` between lines, a space

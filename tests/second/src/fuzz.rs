@@ -1,20 +1,23 @@
 //! Random texts, judged and cross-checked.
 //!
 //! Every text is judged by set algebra and by search; what is accepted must be true
-//! in the brute-force semantics, row by row; its tables must give the text back; and
-//! an answer that is known beforehand must be given.
+//! in the brute-force semantics, row by row; its tables must give the text back, and its
+//! words the rows; and an answer that is known beforehand must be given.
 
 use crate::draft::list;
 use crate::formula::{Atoms, Formulas};
 use crate::judge::{Deciding, Derivation, Judgement, judge, judge_closely};
 use crate::line::{self, Line};
+use crate::reading;
 use crate::rules::ELK;
 use crate::sample::{Sample, samples};
 use crate::semantics::Interpretations;
 use crate::sequent::Sequent;
+use crate::words;
 use std::cell::Cell;
-use std::collections::BTreeMap;
+use std::collections::{BTreeMap, HashMap};
 use std::fmt;
+use std::hash::{DefaultHasher, Hash, Hasher};
 use std::panic::{AssertUnwindSafe, catch_unwind};
 use std::path::{Path, PathBuf};
 use std::process::ExitCode;
@@ -30,6 +33,9 @@ struct Report {
     rows_valued: usize,
     claims_confirmed: usize,
     claims_too_large: usize,
+    words_read: usize,
+    words_too_long: usize,
+    rows_by_words: HashMap<u64, u64>,
 }
 
 /// What became of the rows of one rule.
@@ -40,9 +46,12 @@ struct RowCounts {
     wrong_step: usize,
 }
 
+/// Words of more bytes are not read back.
+pub const MOST_READ: u64 = 1 << 18;
+
 /// The command `PROGRAM SEED COUNT`: judges random texts and prints what came up.
-/// `also` is asked about each text and its judgement.
-pub fn command(also: impl FnMut(&Sample, &Judgement) -> Result<(), String>) -> ExitCode {
+/// `also` is asked about each text, its judgement, and the derivation if it is accepted.
+pub fn command(also: impl FnMut(&Sample, &Judgement, Option<&Derivation>) -> Result<(), String>) -> ExitCode {
     let numbers: Result<Vec<u64>, _> = std::env::args().skip(1).map(|word| word.parse()).collect();
     let Ok(&[seed, count]) = numbers.as_deref() else {
         eprintln!("usage: PROGRAM SEED COUNT");
@@ -53,10 +62,17 @@ pub fn command(also: impl FnMut(&Sample, &Judgement) -> Result<(), String>) -> E
     if report.failed == 0 { ExitCode::SUCCESS } else { ExitCode::FAILURE }
 }
 
-fn run(seed: u64, count: usize, mut also: impl FnMut(&Sample, &Judgement) -> Result<(), String>) -> Report {
+fn run(
+    seed: u64,
+    count: usize,
+    mut also: impl FnMut(&Sample, &Judgement, Option<&Derivation>) -> Result<(), String>,
+) -> Report {
     let mut report = Report::default();
     for (index, sample) in samples(seed).take(count).enumerate() {
-        let check = || report.check(&sample).and_then(|judgement| also(&sample, &judgement));
+        let check = || {
+            let (judgement, derivation) = report.check(&sample)?;
+            also(&sample, &judgement, derivation.as_ref())
+        };
         let checked = catch_unwind(AssertUnwindSafe(check));
         match checked.unwrap_or_else(|_| Err("a panic".into())) {
             Ok(()) => report.passed += 1,
@@ -79,7 +95,7 @@ fn keep(text: &[u8], seed: u64, index: usize) -> PathBuf {
 }
 
 impl Report {
-    fn check(&mut self, sample: &Sample) -> Result<Judgement, String> {
+    fn check(&mut self, sample: &Sample) -> Result<(Judgement, Option<Derivation>), String> {
         let Sample { text, lent, answer } = sample;
         let (judgement, derivation) = judge_closely(text, lent, Deciding::Compared(&self.rows_compared));
         self.count(text, &judgement);
@@ -90,15 +106,47 @@ impl Report {
         if answer.is_some_and(|known| known != given) {
             return Err(format!("{given:?} is answered for {answer:?}"));
         }
-        match derivation {
+        match &derivation {
             Some(_) if rebuilt(text, &judgement) != *text => {
                 return Err("tables that give another text".into());
             }
-            Some(derivation) => self.value(&derivation)?,
+            Some(derivation) => {
+                self.value(derivation)?;
+                self.read_back(derivation)?;
+            }
             None if !judgement.all_zero() => return Err("tables that aren't zero after a refusal".into()),
             None => {}
         }
-        Ok(judgement)
+        Ok((judgement, derivation))
+    }
+
+    /// Asks of the words whether they have their length and no room to spare, read back
+    /// as the rows, and have not told other rows before.
+    fn read_back(&mut self, derivation: &Derivation) -> Result<(), String> {
+        let length = words::length(derivation);
+        if length > MOST_READ {
+            self.words_too_long += 1;
+            return match words::written(derivation, MOST_READ as usize) {
+                None => Ok(()),
+                Some(_) => Err("words that are longer than what they fit into".into()),
+            };
+        }
+        let Some(written) = words::written(derivation, length as usize) else {
+            return Err("words that don't fit into their length".into());
+        };
+        if written.len() as u64 != length || words::written(derivation, length as usize - 1).is_some() {
+            return Err("words of another length".into());
+        }
+        let rows = reading::told(derivation);
+        if reading::read(&written).as_ref() != Some(&rows) {
+            return Err("words that tell other rows".into());
+        }
+        let (written, rows) = (hashed(&written), hashed(&rows));
+        if self.rows_by_words.insert(written, rows).is_some_and(|known| known != rows) {
+            return Err("equal words for unequal rows".into());
+        }
+        self.words_read += 1;
+        Ok(())
     }
 
     /// Counts the number, the rows before the answer's line, which passed, and the row
@@ -118,7 +166,7 @@ impl Report {
 
     /// Asks of the claim and of every row whether it is true, where the atoms are few.
     fn value(&mut self, derivation: &Derivation) -> Result<(), String> {
-        let Derivation { formulas, rows, claim } = derivation;
+        let Derivation { formulas, rows, claim, .. } = derivation;
         match few_atoms(formulas, [claim]) {
             None => self.claims_too_large += 1,
             Some(atoms) if Interpretations::over(formulas, atoms).entails(claim) => {
@@ -136,6 +184,12 @@ impl Report {
         }
         Ok(())
     }
+}
+
+fn hashed(what: &impl Hash) -> u64 {
+    let mut hasher = DefaultHasher::new();
+    what.hash(&mut hasher);
+    hasher.finish()
 }
 
 /// The code of the rule that a line has, if it is a row.
@@ -211,6 +265,12 @@ impl fmt::Display for Report {
             f,
             "{confirmed} accepted claims hold by brute force, {too_large} have too many atoms for it"
         )?;
+        let (read, different, too_long) = (self.words_read, self.rows_by_words.len(), self.words_too_long);
+        writeln!(
+            f,
+            "{read} accepted texts have words that read back as their rows, {different} of them different; \
+            {too_long} have words that are too long for it"
+        )?;
         write!(f, "{} passed, {} failed", self.passed, self.failed)
     }
 }
@@ -222,8 +282,9 @@ mod tests {
     /// A run of thousands has no failure, and every number and every rule comes up.
     #[test]
     fn a_run_of_thousands() {
-        let report = run(7, 4_000, |_, _| Ok(()));
+        let report = run(7, 4_000, |_, _, _| Ok(()));
         assert_eq!(report.failed, 0);
+        assert!(report.words_read > 100 && report.words_too_long > 0, "{report}");
         assert!(report.numbers.iter().all(|&count| count > 5), "{report}");
         let common = |counts: &RowCounts| {
             let RowCounts { passed, wrong_premises, wrong_step } = *counts;

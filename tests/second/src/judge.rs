@@ -32,6 +32,7 @@ pub enum Refusal {
     WrongStep = 11,
     ClaimDiffers = 12,
     NoClaim = 13,
+    NoRoom = 14,
 }
 
 /// One thing for each of the five tables.
@@ -107,11 +108,23 @@ impl Judgement {
     }
 }
 
-/// An accepted derivation as formulas and sequents.
+/// An accepted derivation as formulas and sequents, and its rows as they stand in the
+/// file.
 pub struct Derivation {
+    pub names: Vec<String>,
     pub formulas: Formulas,
     pub rows: Vec<(Kind, Sequent)>,
+    pub written: Vec<WrittenRow>,
     pub claim: Sequent,
+}
+
+/// A row with its lists in their order.
+pub struct WrittenRow {
+    pub rule: usize,
+    pub principal: Option<Formula>,
+    pub premises: Vec<usize>,
+    pub left: Vec<Formula>,
+    pub right: Vec<Formula>,
 }
 
 /// Judges a text with tables of these lengths lent.
@@ -182,6 +195,7 @@ struct StoredRow {
     kind: Kind,
     sequent: Sequent,
     record: [u16; 8],
+    written: WrittenRow,
 }
 
 /// What the accepted beginning of a text holds.
@@ -350,7 +364,20 @@ impl<'t> Checker<'t> {
             right_start,
             right_length,
         ];
-        self.rows.push(StoredRow { kind: ELK.rules[row.rule].conclusion.kind, sequent, record });
+        let kind = ELK.rules[row.rule].conclusion.kind;
+        self.rows.push(StoredRow { kind, sequent, record, written: self.written(&row) });
+    }
+
+    /// A row whose items all exist.
+    fn written(&self, row: &Row) -> WrittenRow {
+        let formula = |&number: &Number| self.numbered[number as usize];
+        WrittenRow {
+            rule: row.rule,
+            principal: row.principal.as_ref().map(formula),
+            premises: row.premises.iter().map(|&number| number as usize).collect(),
+            left: row.left.iter().map(formula).collect(),
+            right: row.right.iter().map(formula).collect(),
+        }
     }
 
     fn claim(&self, left: &[Number], right: &[Number]) -> Result<Sequent, Refusal> {
@@ -364,8 +391,11 @@ impl<'t> Checker<'t> {
     fn finished(self, claim: Sequent) -> (Tables<Vec<u16>>, Derivation) {
         let records = self.rows.iter().flat_map(|row| row.record).collect();
         let tables = Tables { rows: records, ..self.tables };
-        let rows = self.rows.into_iter().map(|row| (row.kind, row.sequent)).collect();
-        (tables, Derivation { formulas: self.formulas, rows, claim })
+        let name = |name: &&[u8]| String::from_utf8_lossy(name).into_owned();
+        let names = self.names.iter().map(name).collect();
+        let split = |row: StoredRow| ((row.kind, row.sequent), row.written);
+        let (rows, written) = self.rows.into_iter().map(split).unzip();
+        (tables, Derivation { names, formulas: self.formulas, rows, written, claim })
     }
 }
 

@@ -3,5 +3,5 @@
 use std::process::ExitCode;
 
 fn main() -> ExitCode {
-    second::fuzz::command(|_, _| Ok(()))
+    second::fuzz::command(|_, _, _| Ok(()))
 }

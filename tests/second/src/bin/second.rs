@@ -3,10 +3,17 @@
 //! `--tables` also prints the five tables, a line each: name, lent length, used
 //! length, and the used entries parted by commas (`-` for none), parted by tabs. The
 //! rest of a table is zero. `--compare` decides every small instance in both ways.
+//! `--words [SPACE]` prints the rows of an accepted text in words instead, if they fit
+//! into so many bytes, or else 1,048,576; and number, tab, line if they don't, or if the
+//! text is refused.
 
 use second::judge::{Deciding, LEAST, judge_closely};
+use second::words;
 use std::cell::Cell;
 use std::io::{Read, Write};
+
+/// What the command lends for words.
+const SPACE: usize = 1 << 20;
 
 fn main() -> std::io::Result<()> {
     let options: Vec<String> = std::env::args().skip(1).collect();
@@ -15,8 +22,17 @@ fn main() -> std::io::Result<()> {
     std::io::stdin().lock().read_to_end(&mut text)?;
     let compared = Cell::new(0);
     let deciding = if asked("--compare") { Deciding::Compared(&compared) } else { Deciding::Fast };
-    let (judgement, _) = judge_closely(&text, &LEAST, deciding);
+    let (judgement, derivation) = judge_closely(&text, &LEAST, deciding);
     let mut out = std::io::stdout().lock();
+    if asked("--words") {
+        let space = options.iter().skip_while(|option| *option != "--words").nth(1);
+        let space = space.map_or(SPACE, |space| space.parse().expect("a number of bytes"));
+        let answer = words::answer(&judgement, derivation.as_ref(), space);
+        return match answer.number {
+            0 => out.write_all(answer.words.split(|&byte| byte == 0).next().unwrap_or_default()),
+            _ => writeln!(out, "{}\t{}", answer.number, answer.line),
+        };
+    }
     writeln!(out, "{}\t{}", judgement.number, judgement.line)?;
     if asked("--tables") {
         for (name, (table, used)) in judgement.tables.zip(judgement.used).listed() {

@@ -1,18 +1,20 @@
 //! Every example of the paper, and its rows that look sound.
 
-use super::{Case, plain, rows};
+use super::{Case, plain, rows, untold, words};
 
 const WHOLE_FILE: &str = "A 0 p / F 0 atom 0 - / F 1 not 0 - / F 2 imp 1 0 / F 3 bot - - / F 4 not 1 - / \
     N 0 same 0 - 0 0,3 / N 1 notl 1 0 0,1 3 / N 2 notr 4 1 0 3,4 / N 3 def 1 - - 1,3 / \
     N 4 impl 2 2,3 2 3 / C 2 3";
 
 pub fn cases() -> Vec<Case> {
+    let swapped = WHOLE_FILE.replace("2,3 2 3", "3,2 2 3");
+    let unclaimed = WHOLE_FILE.strip_suffix(" / C 2 3").unwrap();
     let mut cases = vec![
-        plain("examples/whole_file", 0, 12, WHOLE_FILE),
-        plain("examples/whole_file_with_premises_swapped", 11, 11, &WHOLE_FILE.replace("2,3 2 3", "3,2 2 3")),
-        plain("examples/whole_file_without_claim", 13, 12, WHOLE_FILE.strip_suffix(" / C 2 3").unwrap()),
-        super::raw("examples/empty_text", 13, 1, ""),
-        plain("examples/only_an_atom_and_an_empty_claim", 12, 2, "A 0 p / C - -"),
+        Case { words: Some(words::WHOLE_FILE.into()), ..plain("examples/whole_file", 0, 12, WHOLE_FILE) },
+        untold(plain("examples/whole_file_with_premises_swapped", 11, 11, &swapped)),
+        untold(plain("examples/whole_file_without_claim", 13, 12, unclaimed)),
+        untold(super::raw("examples/empty_text", 13, 1, "")),
+        untold(plain("examples/only_an_atom_and_an_empty_claim", 12, 2, "A 0 p / C - -")),
     ];
     cases.extend(rows::group("examples", DERIVATIONS));
     cases.extend(rows::group("look_sound", LOOK_SOUND));
