@@ -53,7 +53,7 @@ use Rattle.format.proofs.Booleans.{or-false, not-false, list-same}
 use Rattle.format.proofs.Tested.{passes, follows, in-order}
 use Rattle.format.proofs.GoodBodies.{Distinct, distinct-snoc}
 
-pub settled-next : (o : Option ℕ) (p : Place) (f t : File) → settled o p f ≡ next t → (o ≡ none) × (f ≡ t)
+settled-next : (o : Option ℕ) (p : Place) (f t : File) → settled o p f ≡ next t → (o ≡ none) × (f ≡ t)
 settled-next none p f t e = (refl, cc)
 settled-next (some n) p f t e = let z : _≡_ {A = ℕ} 0 1 = cc in absurd (omega arith)
 

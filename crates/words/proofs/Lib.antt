@@ -5,7 +5,6 @@ pub mod Lists
 pub mod Nodes
 pub mod Unrolled
 pub mod Meanings
-pub mod Names
 pub mod Sentences
 pub mod NoZero
 pub mod Accepted
