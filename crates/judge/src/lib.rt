@@ -4,16 +4,12 @@ ghost use mathlib.Core.Path.{_≡_};
 ghost use mathlib.Core.Bool.{false};
 ghost use Rattle.format.specs.Tables.{tooShort};
 ghost use Rattle.run.specs.Lent.{five, lengths, clear, Zeros};
-ghost use Rattle.judge.specs.Contract.{Judges, JudgesFile, Checks};
+ghost use Rattle.judge.specs.Contract.{JudgesFile};
 use answers::Answer;
 use answers::finish;
 use counts::Counts;
 use counts::lengths::too_short;
-use counts::limits::LEAST_FORMULAS;
-use counts::limits::LEAST_NAMES;
 use counts::limits::LEAST_NOTES;
-use counts::limits::LEAST_ROWS;
-use counts::limits::MOST_ENTRIES;
 use run::run;
 use tables::clear;
 
@@ -99,41 +95,4 @@ pub fn judge(
         };
     }
     run_or_clear(text, names, formulas, rows, left, right)
-}
-
-// For C: the same with the lent tables, each a pointer and a length.
-#[no_mangle]
-pub extern "C" fn elk_judge(
-    text: &[u8],
-    names: &mut [u16],
-    formulas: &mut [u16],
-    rows: &mut [u16],
-    left: &mut [u16],
-    right: &mut [u16],
-) -> Answer
-    ensures { λ r. ⌜ Judges (now (text .entry))
-        (lengths (five (now (names .entry)) (now (formulas .entry)) (now (rows .entry)) (now (left .entry)) (now (right .entry))))
-        (five (now (names .exit)) (now (formulas .exit)) (now (rows .exit)) (now (left .exit)) (now (right .exit))) r ⌝ }
-{
-    judge(text, names, formulas, rows, left, right).answer
-}
-
-// For C: the answer alone, with tables of its own.
-#[no_mangle]
-pub extern "C" fn elk_check(text: &[u8]) -> Answer
-    ensures { λ r. ⌜ Checks (now (text .entry)) r ⌝ }
-{
-    let mut names = [0u16; LEAST_NAMES];
-    let mut formulas = [0u16; LEAST_FORMULAS];
-    let mut rows = [0u16; LEAST_ROWS];
-    let mut left = [0u16; MOST_ENTRIES];
-    let mut right = [0u16; MOST_ENTRIES];
-    judge(
-        text,
-        &mut names,
-        &mut formulas,
-        &mut rows,
-        &mut left,
-        &mut right,
-    ).answer
 }

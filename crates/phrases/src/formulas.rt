@@ -37,7 +37,8 @@ fn word_before(n: NodeRecord, i: usize) -> u16
 }
 
 fn put_atom(text: &[u8], names: &[u16], atom: usize, out: &mut [u8], so_far: Written) -> Written
-    ensures { λ r. ⌜ Writes (formulaWords (atomNamed (spelling (now (text .entry)) (now (names .entry)) atom))) (now (out .entry)) «so_far» (now (out .exit)) r ⌝ }
+    ensures { λ r. ⌜ Writes (formulaWords (atomNamed (spelling (now (text .entry)) (now (names .entry)) atom)))
+        (now (out .entry)) «so_far» (now (out .exit)) r ⌝ }
 {
     let opened = put(b"\"", out, so_far);
     let named = put_name(text, names, atom, out, opened);

@@ -29,7 +29,8 @@ module _ (text : Bytes) (names formulas rows left right : List ℕ) where
       by : RowRecord → Bytes
       by r =
           headingWords number (r .rule)
-          ++ (groundWords text names formulas (r .principal) (r .first) (r .second) ++ sequentWords text names formulas rows left right (elkRule (r .rule)) number)
+          ++ (groundWords text names formulas (r .principal) (r .first) (r .second)
+          ++ sequentWords text names formulas rows left right (elkRule (r .rule)) number)
 
   module _ (count : ℕ) where
     -- those of the rows from `number` on

@@ -66,22 +66,3 @@ pub fn tell(
         line: 0,
     }
 }
-
-// For C: the same, each lent table and the lent text a pointer and a length.
-#[no_mangle]
-pub extern "C" fn elk_words(
-    text: &[u8],
-    names: &mut [u16],
-    formulas: &mut [u16],
-    rows: &mut [u16],
-    left: &mut [u16],
-    right: &mut [u16],
-    words: &mut [u8],
-) -> Answer
-    ensures { λ r. ⌜ Tells (now (text .entry))
-        (lengths (five (now (names .entry)) (now (formulas .entry)) (now (rows .entry)) (now (left .entry)) (now (right .entry))))
-        (length (now (words .entry)))
-        (five (now (names .exit)) (now (formulas .exit)) (now (rows .exit)) (now (left .exit)) (now (right .exit))) (now (words .exit)) r ⌝ }
-{
-    tell(text, names, formulas, rows, left, right, words)
-}

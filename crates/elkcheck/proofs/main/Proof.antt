@@ -23,14 +23,11 @@ returns c = search needs
 array-share-prefix-buffer : tie.Need-array-share-prefix-buffer
 array-share-prefix-buffer c = search needs
 
-slice-aggregate-elk-check : tie.Need-slice-aggregate-elk-check
-slice-aggregate-elk-check c = sym (length-take-le _ _ (c .before .before .before .read-all .ensures))
+slice-aggregate-answer : tie.Need-slice-aggregate-answer
+slice-aggregate-answer c = sym (length-take-le _ _ (c .before .before .before .read-all .ensures))
 
-elk-check-requires : tie.Need-elk-check-requires
-elk-check-requires c κs = search needs
-
-print-requires : tie.Need-print-requires
-print-requires c κs = search needs
+answer-requires : tie.Need-answer-requires
+answer-requires c κs = search needs
 
 slice-aggregate-fail-2 : tie.Need-slice-aggregate-fail-2
 slice-aggregate-fail-2 c = search needs
@@ -54,9 +51,8 @@ main-spec =
     fail-requires
     returns
     array-share-prefix-buffer
-    slice-aggregate-elk-check
-    elk-check-requires
-    print-requires
+    slice-aggregate-answer
+    answer-requires
     slice-aggregate-fail-2
     fail-requires-2
     returns-2

@@ -67,7 +67,8 @@ returns-2 c =
     let ran = finished .before .before .before .before .before .before .before .before .before .before .before .before in
     let entry = ran .before .before .before .before .before .before .before .before .before .before .before .before .before in
     let fresh = fresh-tables _ (entry .pre .0) (entry .pre .1) refl in
-    judges-again-clear (entry .pre .0) fresh (ran .run .ensures) (finished .finish .ensures) (tested .if1 .left) (cleared .clear-all .ensures) (c .none .ensures)
+    judges-again-clear (entry .pre .0) fresh (ran .run .ensures) (finished .finish .ensures) (tested .if1 .left) (cleared .clear-all .ensures)
+    (c .none .ensures)
 
 pub run-or-clear-spec : {M : Type 1} → statement M
 run-or-clear-spec =

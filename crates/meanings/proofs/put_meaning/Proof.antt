@@ -35,7 +35,8 @@ returns c =
     let at-start = at-part .before .before in
     let at = at-start .before .before .wide in
     let rule = c .before .before .before .before .before .before .before .before .before .before .before .args .rule in
-    writes-as (sym (phrase-by rule (at .result) _ _ (at .ensures) (at-start .start-of .ensures) (at-part .before .start-of2 .ensures)) ∙ sym (at-part .between .ensures))
+    writes-as (sym (phrase-by rule (at .result) _ _ (at .ensures) (at-start .start-of .ensures) (at-part .before .start-of2 .ensures)) ∙ sym
+    (at-part .between .ensures))
     (c .before .before .put .ensures)
 
 pub put-meaning-spec : {M : Type 1} → statement M

@@ -34,7 +34,8 @@ returns c =
     let at-heading = at-grounds .before .before .before .before in
     let at-row = at-heading .before .before in
     let args = at-row .before .before .before .before .before .before .before .before .before .args in
-    writes-as (sentence-read (args .text .now) (args .names .now) (args .formulas .now) (args .rows .now) (args .left .now) (args .right .now) _ _ (at-row .row .result) _ (at-row .before .wide .ensures) (at-row .row .ensures) (at-kind .is-elk .ensures))
+    writes-as (sentence-read (args .text .now) (args .names .now) (args .formulas .now) (args .rows .now) (args .left .now) (args .right .now) _ _
+    (at-row .row .result) _ (at-row .before .wide .ensures) (at-row .row .ensures) (at-kind .is-elk .ensures))
     (writes-then (at-heading .put-heading .ensures) (writes-then (at-grounds .put-grounds .ensures) (at-sides .put-sequent .ensures)))
 
 pub put-sentence-spec : {M : Type 1} → statement M

@@ -18,8 +18,13 @@ abbrev μ-loop : tie.MeasureT-loop
 
 loop-holds : tie.Need-loop-holds Inv-loop μ-loop
 loop-holds c =
-    let args = c .before .before .before .before .before .before .before .args in
-    (omega arith, omega arith, refl, begun-none (args .text .now) (args .names .now) (args .formulas .now) (args .rows .now) (args .left .now) (args .right .now) (args .count) (args .out .now))
+    let args = c .before .before .before .before .before .before .before .args in (
+      omega arith,
+      omega arith,
+      refl,
+      begun-none (args .text .now) (args .names .now) (args .formulas .now) (args .rows .now) (args .left .now)
+          (args .right .now) (args .count) (args .out .now),
+    )
 
 sub-put-sentence : tie.Need-sub-put-sentence Inv-loop μ-loop
 sub-put-sentence c = omega arith
@@ -48,7 +53,8 @@ returns c =
     let at-test = at-sentence .before .before in
     let loop = at-test .before .loop in
     let args = at-test .before .before .before .before .before .before .before .before .before .args in
-    begun-full (args .text .now) (args .names .now) (args .formulas .now) (args .rows .now) (args .left .now) (args .right .now) (args .count) (loop .inv .3) (at-test .loop-test .taken)
+    begun-full (args .text .now) (args .names .now) (args .formulas .now) (args .rows .now) (args .left .now) (args .right .now) (args .count)
+    (loop .inv .3) (at-test .loop-test .taken)
     (rest-full (loop .out) (loop .at) (loop .inv .1) (at-sentence .put-sentence .ensures) (c .enum-told .given .1))
 
 add-at : tie.Need-add-at Inv-loop μ-loop
@@ -77,7 +83,8 @@ loop-again c =
       omega (arith, at-test .loop-test .taken),
       omega (arith, end, told .length-kept),
       told .length-kept ∙ loop .inv .2,
-      begun-more (args .text .now) (args .names .now) (args .formulas .now) (args .rows .now) (args .left .now) (args .right .now) (args .count) (loop .inv .3) (at-test .loop-test .taken) told,
+      begun-more (args .text .now) (args .names .now) (args .formulas .now) (args .rows .now) (args .left .now) (args .right .now) (args .count)
+          (loop .inv .3) (at-test .loop-test .taken) told,
     )
 
 same-length-2 : tie.Need-same-length-2 Inv-loop μ-loop
@@ -86,7 +93,8 @@ same-length-2 c = search needs
 returns-2 : tie.Need-returns-2 Inv-loop μ-loop
 returns-2 c =
     let args = c .before .before .before .before .before .before .before .before .before .args in
-    begun-all (args .text .now) (args .names .now) (args .formulas .now) (args .rows .now) (args .left .now) (args .right .now) (args .count) (c .before .loop .inv .3) (omega arith)
+    begun-all (args .text .now) (args .names .now) (args .formulas .now) (args .rows .now) (args .left .now) (args .right .now) (args .count)
+    (c .before .loop .inv .3) (omega arith)
 
 pub put-sentences-spec : {M : Type 1} → statement M
 put-sentences-spec =

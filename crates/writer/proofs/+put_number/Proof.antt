@@ -65,7 +65,8 @@ put-number-same-length-2 t c = search needs
 
 put-number-returns-2 : (t : ℕ) → put-number-lts.Need-returns-2 (claims t) (put-number-at t) put-number.Post
 put-number-returns-2 t c =
-    writes-as (decimal-more _ (omega arith) (omega arith)) (writes-then (c .before .before .before .before .before .before .put-number .ensures) (c .before .before .put-byte2 .ensures))
+    writes-as (decimal-more _ (omega arith) (omega arith)) (writes-then (c .before .before .before .before .before .before .put-number .ensures)
+    (c .before .before .put-byte2 .ensures))
 
 pub +put-number-spec : {M : Type 1} → statement M
 +put-number-spec = close μ-put-number λ t. put-number-lts.spec (claims t)

@@ -95,7 +95,8 @@ put-formula-returns-2 t c =
     let at-word = at-test .before .before in
     let at-node = at-word .before in
     let args = at-node .before .before .before .before .before .before .before .args in
-    writes-as (falsum-words (args .text .now) (args .names .now) (args .formulas .now) (args .i) _ (at-node .node .ensures) _ (at-word .word-before .ensures) (at-test .if1 .taken)) (c .before .before .put .ensures)
+    writes-as (falsum-words (args .text .now) (args .names .now) (args .formulas .now) (args .i) _ (at-node .node .ensures) _
+    (at-word .word-before .ensures) (at-test .if1 .taken)) (c .before .before .put .ensures)
 
 put-formula-put-atom-requires : (t : ℕ) → put-formula-lts.Need-put-atom-requires (claims t) (put-formula-at t) put-formula.Post
 put-formula-put-atom-requires t c κs = tt
@@ -110,7 +111,8 @@ put-formula-returns-3 t c =
     let at-word = at-first .before in
     let at-node = at-word .before in
     let args = at-node .before .before .before .before .before .before .before .args in
-    writes-as (atom-words (args .text .now) (args .names .now) (args .formulas .now) (args .i) _ (at-node .node .ensures) _ (at-word .word-before .ensures) (at-test .if2 .taken) _ (at-first .wide .ensures)) (c .before .before .put-atom .ensures)
+    writes-as (atom-words (args .text .now) (args .names .now) (args .formulas .now) (args .i) _ (at-node .node .ensures) _
+    (at-word .word-before .ensures) (at-test .if2 .taken) _ (at-first .wide .ensures)) (c .before .before .put-atom .ensures)
 
 put-formula-slice-aggregate-put-2 : (t : ℕ) → put-formula-lts.Need-slice-aggregate-put-2 (claims t) (put-formula-at t) put-formula.Post
 put-formula-slice-aggregate-put-2 t c = refl
@@ -139,7 +141,8 @@ put-formula-returns-4 t c =
     let at-word = at-first .before in
     let at-node = at-word .before in
     let args = at-node .before .before .before .before .before .before .before .args in
-    writes-as (not-words (args .text .now) (args .names .now) (args .formulas .now) (args .i) _ (at-node .node .ensures) _ (at-word .word-before .ensures) (at-test .if3 .taken) _ (at-first .wide .ensures))
+    writes-as (not-words (args .text .now) (args .names .now) (args .formulas .now) (args .i) _ (at-node .node .ensures) _
+    (at-word .word-before .ensures) (at-test .if3 .taken) _ (at-first .wide .ensures))
     (writes-then (c .before .before .before .before .before .before .put2 .ensures) (c .before .before .put-formula .ensures))
 
 put-formula-put-bracket-requires : (t : ℕ) → put-formula-lts.Need-put-bracket-requires (claims t) (put-formula-at t) put-formula.Post
@@ -194,7 +197,9 @@ put-formula-returns-5 t c =
     let at-word = at-first .before in
     let at-node = at-word .before in
     let args = at-node .before .before .before .before .before .before .before .args in
-    writes-as (two-words (args .text .now) (args .names .now) (args .formulas .now) (args .i) _ (at-node .node .ensures) _ (at-word .word-before .ensures) (above-two (at-tests .before .before .if1 .left) (at-tests .before .if2 .left) (at-tests .if3 .left)) _ _ (at-first .wide .ensures) (at-second .before .before .wide2 .ensures))
+    writes-as (two-words (args .text .now) (args .names .now) (args .formulas .now) (args .i) _ (at-node .node .ensures) _
+    (at-word .word-before .ensures) (above-two (at-tests .before .before .if1 .left) (at-tests .before .if2 .left) (at-tests .if3 .left)) _ _
+    (at-first .wide .ensures) (at-second .before .before .wide2 .ensures))
     (writes-then (at-opening .put-bracket .ensures) (writes-then (at-first-part .put-formula2 .ensures)
     (writes-then (at-connective .put-connective .ensures) (writes-then (at-second .put-formula3 .ensures) (at-bracket .put3 .ensures)))))
 

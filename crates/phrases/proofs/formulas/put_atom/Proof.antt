@@ -25,7 +25,10 @@ same-length c = search needs
 
 returns : tie.Need-returns
 unfolding formulaWords
-returns c = writes-then (c .before .before .before .before .before .before .before .before .before .before .before .put .ensures) (writes-then (c .before .before .before .before .before .before .before .put-name .ensures) (c .before .before .put2 .ensures))
+returns c =
+    let at-end = c .before .before in
+    let at-name = at-end .before .before .before .before .before in
+    writes-then (at-name .before .before .before .before .put .ensures) (writes-then (at-name .put-name .ensures) (at-end .put2 .ensures))
 
 pub put-atom-spec : {M : Type 1} → statement M
 put-atom-spec =

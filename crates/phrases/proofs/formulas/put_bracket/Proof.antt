@@ -20,7 +20,8 @@ same-length c = search needs
 
 returns : tie.Need-returns
 unfolding bracketOf
-returns c = writes-as (ap (λ (b : Bool). cond b (bytes "(if ") (bytes "(")) (eq-eqb _ 5 (c .before .before .before .before .before .if1 .taken))) (c .before .before .put .ensures)
+returns c = writes-as (ap (λ (b : Bool). cond b (bytes "(if ") (bytes "(")) (eq-eqb _ 5 (c .before .before .before .before .before .if1 .taken)))
+    (c .before .before .put .ensures)
 
 slice-aggregate-put-2 : tie.Need-slice-aggregate-put-2
 slice-aggregate-put-2 c = search needs
@@ -33,7 +34,8 @@ same-length-2 c = search needs
 
 returns-2 : tie.Need-returns-2
 unfolding bracketOf
-returns-2 c = writes-as (ap (λ (b : Bool). cond b (bytes "(if ") (bytes "(")) (ne-eqb _ 5 (c .before .before .before .before .before .if1 .left))) (c .before .before .put2 .ensures)
+returns-2 c = writes-as (ap (λ (b : Bool). cond b (bytes "(if ") (bytes "(")) (ne-eqb _ 5 (c .before .before .before .before .before .if1 .left)))
+    (c .before .before .put2 .ensures)
 
 pub put-bracket-spec : {M : Type 1} → statement M
 put-bracket-spec =

@@ -41,7 +41,8 @@ same-length-2 c = search needs
 returns-2 : tie.Need-returns-2
 unfolding connectiveOf
 returns-2 c =
-    writes-as (by-first _ (ne-eqb _ 3 (c .before .before .before .before .before .before .if1 .left)) ∙ by-second (eq-eqb _ 4 (c .before .before .before .before .before .if2 .taken))) (c .before .before .put2 .ensures)
+    writes-as (by-first _ (ne-eqb _ 3 (c .before .before .before .before .before .before .if1 .left)) ∙ by-second
+    (eq-eqb _ 4 (c .before .before .before .before .before .if2 .taken))) (c .before .before .put2 .ensures)
 
 slice-aggregate-put-3 : tie.Need-slice-aggregate-put-3
 slice-aggregate-put-3 c = search needs
@@ -55,7 +56,8 @@ same-length-3 c = search needs
 returns-3 : tie.Need-returns-3
 unfolding connectiveOf
 returns-3 c =
-    writes-as (by-first _ (ne-eqb _ 3 (c .before .before .before .before .before .before .if1 .left)) ∙ by-second (ne-eqb _ 4 (c .before .before .before .before .before .if2 .left))) (c .before .before .put3 .ensures)
+    writes-as (by-first _ (ne-eqb _ 3 (c .before .before .before .before .before .before .if1 .left)) ∙ by-second
+    (ne-eqb _ 4 (c .before .before .before .before .before .if2 .left))) (c .before .before .put3 .ensures)
 
 pub put-connective-spec : {M : Type 1} → statement M
 put-connective-spec =

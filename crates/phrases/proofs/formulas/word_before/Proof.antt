@@ -15,10 +15,14 @@ wide-requires : tie.Need-wide-requires
 wide-requires c κs = search needs
 
 returns-3 : tie.Need-returns-3
-returns-3 c = let args = c .before .before .before .before .before .before .args in word-ahead (args .n) (args .i) (c .before .before .before .before .if1 .left) (omega arith) (omega arith)
+returns-3 c =
+    let args = c .before .before .before .before .before .before .args in
+    word-ahead (args .n) (args .i) (c .before .before .before .before .if1 .left) (omega arith) (omega arith)
 
 returns-4 : tie.Need-returns-4
-returns-4 c = let args = c .before .before .before .before .before .before .before .before .args in word-not (args .n) (args .i) (c .before .before .before .before .before .before .if1 .left) (omega arith) (omega arith) (c .if4 .taken)
+returns-4 c =
+    let args = c .before .before .before .before .before .before .before .before .args in
+    word-not (args .n) (args .i) (c .before .before .before .before .before .before .if1 .left) (omega arith) (omega arith) (c .if4 .taken)
 
 wide-requires-2 : tie.Need-wide-requires-2
 wide-requires-2 c κs = search needs
@@ -26,12 +30,14 @@ wide-requires-2 c κs = search needs
 returns-5 : tie.Need-returns-5
 returns-5 c =
     let args = c .before .before .before .before .before .before .before .before .before .before .args in
-    word-second-ahead (args .n) (args .i) (c .before .before .before .before .before .before .before .before .if1 .left) (omega arith) (omega arith) (c .before .before .if4 .left) (omega arith)
+    word-second-ahead (args .n) (args .i) (c .before .before .before .before .before .before .before .before .if1 .left) (omega arith) (omega arith)
+    (c .before .before .if4 .left) (omega arith)
 
 returns-6 : tie.Need-returns-6
 returns-6 c =
     let args = c .before .before .before .before .before .before .before .before .before .before .args in
-    word-both (args .n) (args .i) (c .before .before .before .before .before .before .before .before .if1 .left) (omega arith) (omega arith) (c .before .before .if4 .left) (omega arith)
+    word-both (args .n) (args .i) (c .before .before .before .before .before .before .before .before .if1 .left) (omega arith) (omega arith)
+    (c .before .before .if4 .left) (omega arith)
 
 pub word-before-spec : {M : Type 1} → statement M
 word-before-spec =

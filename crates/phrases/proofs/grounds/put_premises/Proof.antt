@@ -33,9 +33,11 @@ same-length-2 c = search needs
 
 returns-2 : tie.Need-returns-2
 returns-2 c =
-    let args = c .before .before .before .before .before .before .before .before .before .before .before .before .args in
-    writes-as (one-premise (args .first) (args .second) (c .before .before .before .before .before .before .before .before .before .before .if1 .left) (c .if2 .taken))
-    (writes-then (c .before .before .before .before .before .before .before .put2 .ensures) (c .before .before .before .put-number .ensures))
+    let at-begun = c .before .before .before .before .before .before .before in
+    let at-test = at-begun .before .before .before in
+    let args = at-test .before .before .args in
+    writes-as (one-premise (args .first) (args .second) (at-test .if1 .left) (c .if2 .taken))
+    (writes-then (at-begun .put2 .ensures) (c .before .before .before .put-number .ensures))
 
 slice-aggregate-put-3 : tie.Need-slice-aggregate-put-3
 slice-aggregate-put-3 c = search needs

@@ -23,7 +23,8 @@ returns : tie.Need-returns
 unfolding principalWords
 returns c =
     let args = c .before .before .before .before .before .before .before .before .before .before .args in
-    writes-as (no-principal (args .text .now) (args .names .now) (args .formulas .now) (args .principal) (c .before .before .before .before .before .if1 .taken)) (c .before .before .put .ensures)
+    writes-as (no-principal (args .text .now) (args .names .now) (args .formulas .now) (args .principal)
+    (c .before .before .before .before .before .if1 .taken)) (c .before .before .put .ensures)
 
 slice-aggregate-put-2 : tie.Need-slice-aggregate-put-2
 slice-aggregate-put-2 c = search needs
@@ -43,7 +44,9 @@ same-length-2 c = search needs
 returns-2 : tie.Need-returns-2
 returns-2 c =
     let args = c .before .before .before .before .before .before .before .before .before .before .before .before .before .before .before .args in
-    writes-as (principal-words (args .text .now) (args .names .now) (args .formulas .now) (args .principal) (c .before .before .before .before .before .before .before .before .before .before .if1 .left) _ (c .before .before .before .before .wide .ensures))
+    writes-as (principal-words (args .text .now) (args .names .now) (args .formulas .now) (args .principal)
+    (c .before .before .before .before .before .before .before .before .before .before .if1 .left) _
+    (c .before .before .before .before .wide .ensures))
     (writes-then (c .before .before .before .before .before .before .before .put2 .ensures) (c .before .before .put-formula .ensures))
 
 pub put-principal-spec : {M : Type 1} → statement M

@@ -25,7 +25,8 @@ same-length c = search needs
 returns : tie.Need-returns Inv-loop μ-loop
 returns c =
     let args = c .before .before .before .before .before .before .before .before .before .before .args in
-    writes-as (side-empty (args .text .now) (args .names .now) (args .formulas .now) (args .side .now) _ _ (c .before .before .before .before .if1 .taken)) (c .before .before .put-empty .ensures)
+    writes-as (side-empty (args .text .now) (args .names .now) (args .formulas .now) (args .side .now) _ _
+    (c .before .before .before .before .if1 .taken)) (c .before .before .put-empty .ensures)
 
 put-opening-requires : tie.Need-put-opening-requires Inv-loop μ-loop
 put-opening-requires c κs = search needs
@@ -41,8 +42,13 @@ put-formula-requires c κs = search needs
 
 loop-holds : tie.Need-loop-holds Inv-loop μ-loop
 loop-holds c =
-    let args = c .before .before .before .before .before .before .before .before .before .before .before .before .before .before .before .before .args in
-    (omega arith, omega arith, refl, listed-none (args .text .now) (args .names .now) (args .formulas .now) (args .side .now) (c .before .before .put-formula .ensures))
+    let args = c .before .before .before .before .before .before .before .before .before .before .before .before .before .before .before .before .args in (
+      omega arith,
+      omega arith,
+      refl,
+      listed-none (args .text .now) (args .names .now) (args .formulas .now) (args .side .now)
+          (c .before .before .put-formula .ensures),
+    )
 
 slice-aggregate-put : tie.Need-slice-aggregate-put Inv-loop μ-loop
 slice-aggregate-put c = search needs
@@ -63,7 +69,11 @@ put-formula-requires-2 : tie.Need-put-formula-requires-2 Inv-loop μ-loop
 put-formula-requires-2 c κs = search needs
 
 add-i : tie.Need-add-i Inv-loop μ-loop
-add-i c = let start = c .before .before .before .before .before .before .before .before .before .before .before .before .before .before .before .before .before .before .before .before .before .before .before .before .before .before .before .before .before in omega (arith, c .before .before .before .before .before .before .before .before .before .before .before .loop-test .taken, start .good .1 .1 .1 .1 .1 .0 .0)
+add-i c =
+    let at-test = c .before .before .before .before .before .before .before .before .before .before .before in
+    let at-first = at-test .before .before .before .before in
+    let start = at-first .before .before .before .before .before .before .before .before .before .before .before .before .before .before in
+    omega (arith, at-test .loop-test .taken, start .good .1 .1 .1 .1 .1 .0 .0)
 
 loop-less : tie.Need-loop-less Inv-loop μ-loop
 loop-less c = omega arith
@@ -72,12 +82,15 @@ loop-again : tie.Need-loop-again Inv-loop μ-loop
 loop-again c =
     let at-formula = c .before .before in
     let at-comma = at-formula .before .before .before .before .before .before in
-    let loop = at-comma .before .before .before .before .loop in
-    let args = c .before .before .before .before .before .before .before .before .before .before .before .before .before .before .before .before .before .before .before .before .before .before .before .before .before .before .before .before .before .args in (
+    let at-loop = at-comma .before .before .before .before in
+    let loop = at-loop .loop in
+    let at-first = at-loop .before .before .before in
+    let args = at-first .before .before .before .before .before .before .before .before .before .before .before .before .before .before .args in (
       omega arith,
       omega arith,
       at-formula .put-formula2 .ensures .length-kept ∙ at-comma .put .ensures .length-kept ∙ loop .inv .2,
-      listed-more (args .text .now) (args .names .now) (args .formulas .now) (args .side .now) (loop .inv .3) (omega arith) (at-formula .before .before .wide2 .ensures) (at-comma .put .ensures) (at-formula .put-formula2 .ensures),
+      listed-more (args .text .now) (args .names .now) (args .formulas .now) (args .side .now) (loop .inv .3) (omega arith)
+          (at-formula .before .before .wide2 .ensures) (at-comma .put .ensures) (at-formula .put-formula2 .ensures),
     )
 
 same-length-2 : tie.Need-same-length-2 Inv-loop μ-loop
@@ -89,7 +102,8 @@ returns-2 c =
     let at-formula = c .before .before .before .before in
     let at-opening = at-formula .before .before .before .before .before .before in
     let args = at-opening .before .before .before .before .before .before .before .before .args in
-    writes-as (side-first (args .text .now) (args .names .now) (args .formulas .now) (args .side .now) _ _ _ (omega arith) (at-formula .before .before .wide .ensures))
+    writes-as (side-first (args .text .now) (args .names .now) (args .formulas .now) (args .side .now) _ _ _ (omega arith)
+    (at-formula .before .before .wide .ensures))
     (writes-then (at-opening .put-opening .ensures) (writes-then (at-formula .put-formula .ensures)
     (listed-all (args .text .now) (args .names .now) (args .formulas .now) (args .side .now) (loop .inv .3) (omega arith))))
 
