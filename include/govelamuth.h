@@ -56,7 +56,8 @@ struct elk_answer elk_judge(const uint8_t *text, size_t text_length,
  * same rows, formula for formula, and no byte of the words is zero.
  * If the text is accepted but its words are longer than the lent text, the answer is number 14 with line 0; room for exactly the
  * words is enough. After any refusal, number 14 too, the lent text and the five tables are zeros alone. The lent text may have
- * any length, 0 too; what it held before does not matter. It takes about STACK_FIGURE of stack. */
+ * any length, 0 too; what it held before does not matter. It takes about 280 KiB of stack, most of it
+ * for formulas as deep as a file allows: each part is written by a call of its own. */
 struct elk_answer elk_words(const uint8_t *text, size_t text_length,
                             uint16_t *names, size_t names_length,
                             uint16_t *formulas, size_t formulas_length,
