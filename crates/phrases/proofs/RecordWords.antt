@@ -1,7 +1,6 @@
 -- The word of a record whose parts come before a number, by one test after the other. Assumes nothing.
 use Prim.Native.Nat.{ℕ, _≤_, _<_}
-use mathlib.Core.Bool.{Bool, cond}
-use mathlib.Core.Path.{_≡_, refl, sym, ap, _∙_}
+use mathlib.Core.Path.{_≡_}
 use borrow.Author.Tests.{eq-eqb, ne-eqb, le-leb, lt-leb, lt-ltb, le-ltb}
 use Rattle.tables.specs.declared.records.NodeRecord.{NodeRecord}
 use Rattle.phrases.specs.Formulas.{wordBefore}

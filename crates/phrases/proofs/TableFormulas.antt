@@ -6,11 +6,10 @@ use mathlib.Core.List.{List, _++_, append-nil}
 use mathlib.Core.Path.{_≡_, refl, sym, ap, ap₂, subst, _∙_}
 use borrow.Author.Tests.{eqb-false, ltb-false, leb-false}
 use lib.Dec.{eqb, ltb, leb}
-use lib.ListN.{length, getD}
 use Rattle.format.specs.Text.{Bytes, bytes}
 use Rattle.tables.specs.Records.{nodeAt, recordFrom}
 use Rattle.tables.specs.declared.records.NodeRecord.{NodeRecord}
-use Rattle.words.specs.Told.{Named, falsum, atom, neg, conj, disj, imp}
+use Rattle.words.specs.Told.{Named, atom, neg, conj, disj, imp}
 use Rattle.words.specs.Words.{formulaWords}
 use Rattle.writer.specs.Names.{spelling}
 use Rattle.phrases.specs.Formulas.{wordBefore, formulaBy, formulaWithin, tableFormula, bracketOf, connectiveOf}

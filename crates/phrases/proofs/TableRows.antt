@@ -2,7 +2,7 @@
 use Prim.Native.Nat.{ℕ, _+_, _≤_, _<_}
 use mathlib.Core.Bool.{Bool, cond}
 use mathlib.Core.List.{List, [], _∷_, _++_, append-nil, append-assoc}
-use mathlib.Core.Option.{Option, none, some}
+use mathlib.Core.Option.{none, some}
 use mathlib.Core.Path.{_≡_, refl, sym, ap, _∙_}
 use borrow.Author.Tests.{eq-eqb, ne-eqb}
 use lib.Dec.{eqb}
@@ -11,14 +11,13 @@ use Rattle.elk.specs.Sequent.{Kind}
 use Rattle.format.specs.Text.{Bytes, bytes, _<$>_}
 use Rattle.format.specs.Tables.{Side, absent}
 use Rattle.format.specs.Written.{decimal}
-use Rattle.words.specs.Told.{Named}
 use Rattle.words.specs.Words.{formulaWords, items, listing, principalWords, premiseWords, emptySide, sideOpening}
 use Rattle.words.proofs.Unrolled.{items-first, items-end, listing-none, listing-first, listing-map}
 use Rattle.writer.specs.declared.Written.{Written}
 use Rattle.writer.specs.Writing.{Writes}
 use Rattle.writer.proofs.Writing.{writes-as, writes-then, writes-nothing}
 use Rattle.phrases.specs.Formulas.{tableFormula}
-use Rattle.phrases.specs.Rows.{present, premisesFrom, tablePrincipal, tableSide}
+use Rattle.phrases.specs.Rows.{premisesFrom, tablePrincipal, tableSide}
 
 -- ---- the principal formula
 

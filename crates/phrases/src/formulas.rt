@@ -1,7 +1,6 @@
 // The words of a formula: in full brackets, with the names of its atoms in quotes. Formulas share their parts, so the words of one
 // may be longer than any text: nothing is written once there is no room, and the time is bounded by the room.
 ghost use mathlib.Core.Path.{_≡_};
-ghost use mathlib.Core.Bool.{Bool};
 ghost use Rattle.words.specs.Words.{formulaWords};
 ghost use Rattle.words.specs.Told.{atom as atomNamed};
 ghost use Rattle.writer.specs.Names.{spelling};

@@ -1,34 +1,31 @@
 -- The whole answer: the file's own refusal first, then whether its words fit.
-use Prim.Native.Nat.{ℕ, _+_, _%_, _≤_, _<_}
-use native.Mathlib.Nat.{sub-zero}
+use Prim.Native.Nat.{ℕ, _%_, _≤_, _<_}
 use native.Mathlib.Omega.{arith}
 use mathlib.Core.Bool.{Bool, true, false, cond}
-use mathlib.Core.List.{List, [], _++_}
+use mathlib.Core.List.{[]}
 use mathlib.Core.Path.{_≡_, refl, sym, ap, subst, _∙_}
 use borrow.Author.Tests.{le-leb, lt-leb, leb-true, leb-false}
 use lib.Dec.{leb}
-use lib.ListN.{length, take, replicate}
+use lib.ListN.{length}
 use Rattle.format.specs.Text.{Bytes}
-use Rattle.format.specs.File.{File, noFile}
-use Rattle.format.specs.Tables.{Contents, Lent, padded, encode, mostRows}
-use Rattle.format.specs.Judged.{Ruling, accepted, turnedDown, numberIn, lineIn, next, beginning, judged, heldBy, contents}
+use Rattle.format.specs.File.{File}
+use Rattle.format.specs.Tables.{Contents, Lent, padded}
+use Rattle.format.specs.Judged.{Ruling, accepted, turnedDown, numberIn, lineIn, beginning, judged, heldBy, contents}
 use Rattle.format.proofs.GoodBodies.{good-held}
 use Rattle.counts.specs.declared.Counts.{Counts}
 use Rattle.tables.proofs.Encoded.{begins-padded}
-use Rattle.run.specs.Lent.{five, lengths, clear}
+use Rattle.run.specs.Lent.{lengths, clear}
 use Rattle.answers.specs.Answers.{filled}
 use Rattle.answers.specs.declared.Answer.{Answer}
-use Rattle.judge.specs.Contract.{Judges, Filed, JudgesFile}
+use Rattle.judge.specs.Contract.{Filed, JudgesFile}
 use Rattle.judge.specs.declared.Judged.{Judged}
 use Rattle.judge.proofs.Whole.{nothing-held}
 use Rattle.writer.specs.declared.Written.{Written}
 use Rattle.writer.specs.Writing.{noRoom, front, Writes}
 use Rattle.writer.proofs.Writing.{writes-within, writes-end, writes-full}
-use Rattle.words.specs.Told.{toldFile}
-use Rattle.words.specs.Words.{sentences, wordsIn}
-use Rattle.words.specs.Call.{wordsJudged, wordsLeft, wordsContents}
+use Rattle.words.specs.Words.{wordsIn}
 use Rattle.words.proofs.Unrolled.{words-of-file}
-use Rattle.words.proofs.Call.{Leaves, file-refused, words-fit, words-too-long}
+use Rattle.words.proofs.Call.{file-refused, words-fit, words-too-long}
 use Rattle.sentences.specs.Sentences.{tableSentences}
 use Rattle.sentences.proofs.Held.{HoldsFile, held-sentences}
 use Rattle.tell.specs.Contract.{PutsWords, Tells}

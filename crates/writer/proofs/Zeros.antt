@@ -2,9 +2,9 @@
 use Prim.Native.Nat.{ℕ, _+_, _-_, _≤_, _<_}
 use native.Mathlib.Numerals.{add-one}
 use native.Mathlib.Omega.{arith}
-use mathlib.Core.List.{List, [], _++_, append-nil}
-use mathlib.Core.Path.{_≡_, refl, sym, ap, _∙_}
-use lib.ListN.{length, getD, take, drop, set, replicate, length-replicate, length-take, getD-replicate, drop-of-length-le}
+use mathlib.Core.List.{_++_, append-nil}
+use mathlib.Core.Path.{_≡_, sym, ap, _∙_}
+use lib.ListN.{length, getD, take, set, replicate, length-replicate, length-take, getD-replicate, drop-of-length-le}
 use lib.Seq.{paste, paste-zero, paste-suc, take-all}
 use Rattle.format.specs.Text.{Bytes}
 use Rattle.format.specs.Tables.{padded}

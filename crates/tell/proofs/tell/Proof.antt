@@ -34,7 +34,6 @@ returns : tie.Need-returns
 returns c =
     let at-pad = c .before .before in
     let at-judge = at-pad .before .before .before .before .before .before .before .before .before .before .before .before .before .before .before in
-    let args = at-judge .before .before .before .before .before .before .before .before .before .before .before .before .before .args in
     tells-refused (at-judge .judge .ensures) _ (at-pad .before .before .if1 .taken) (at-pad .pad .ensures)
 
 narrow-place-requires : tie.Need-narrow-place-requires

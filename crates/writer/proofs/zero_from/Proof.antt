@@ -1,10 +1,10 @@
 -- `writer::zero_from` meets its contract. The invariant of its loop: zeros from the start to the place. Assumes nothing.
-use Prim.Native.Nat.{ℕ, _+_, _-_, _≤_}
+use Prim.Native.Nat.{ℕ, _-_, _≤_}
 use native.Mathlib.Omega.{arith}
-use mathlib.Core.List.{List, _++_}
-use mathlib.Core.Path.{_≡_, refl, sym, ap, _∙_}
+use mathlib.Core.List.{List}
+use mathlib.Core.Path.{_≡_, refl, ap, _∙_}
 use borrow.Author.Needs.{needs}
-use lib.ListN.{length, getD, take, drop, set, length-set}
+use lib.ListN.{length, set, length-set}
 use Rattle.writer.proofs.Zeros.{zeroed, zeroed-none, zeroed-more, zeroed-all}
 use Rattle.writer.proofs.zero_from.Statement.{statement}
 use Rattle.writer.proofs.zero_from.Tie as tie

@@ -1,6 +1,6 @@
 -- `phrases::formulas::put_formula` meets its contract. The measure is the formula's number: its parts have smaller ones.
 use native.Mathlib.Omega.{arith}
-use mathlib.Core.Path.{_≡_, refl, sym, subst, _∙_}
+use mathlib.Core.Path.{_≡_, refl}
 use borrow.Author.Needs.{needs}
 use Rattle.phrases.proofs.TableFormulas.{first-before, second-before, parts-of, falsum-words, atom-words, not-words, two-words}
 use Rattle.writer.proofs.Writing.{none-writes, writes-from, writes-as, writes-then}
@@ -67,9 +67,7 @@ put-formula-enum-told-2 : (t : ℕ) → put-formula-lts.Need-enum-told-2 (claims
 put-formula-enum-told-2 t c = search needs
 
 put-formula-returns : (t : ℕ) → put-formula-lts.Need-returns (claims t) (put-formula-at t) put-formula.Post
-put-formula-returns t c =
-    let args = c .before .before .before .before .before .before .args in
-    writes-from (c .enum-told2 .given .1) (none-writes _ _)
+put-formula-returns t c = writes-from (c .enum-told2 .given .1) (none-writes _ _)
 
 put-formula-node-requires : (t : ℕ) → put-formula-lts.Need-node-requires (claims t) (put-formula-at t) put-formula.Post
 put-formula-node-requires t c κs = tt

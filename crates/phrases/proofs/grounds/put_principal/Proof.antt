@@ -1,8 +1,4 @@
 -- `phrases::grounds::put_principal` meets its contract.
-use mathlib.Core.Bool.{Bool, cond}
-use mathlib.Core.List.{_++_, append-nil}
-use mathlib.Core.Option.{none, some}
-use mathlib.Core.Path.{_≡_, sym, ap, _∙_}
 use Rattle.words.specs.Words.{principalWords}
 use Rattle.writer.proofs.Writing.{writes-as, writes-then}
 use Rattle.phrases.proofs.TableRows.{no-principal, principal-words}
