@@ -769,11 +769,11 @@ static const struct phrase meanings[RULES] = {
     PHRASE("each part of a given disjunction is taken in turn, the second with the first as one more alternative"), /* orl */
     PHRASE("an alternative is dropped, as its negation is given"), /* notl */
     PHRASE("an implication takes the place of its second part among the alternatives, and its first part is no longer given"), /* impr */
-    PHRASE("an implication is given, as one row has its second part given with the first negated as an alternative, and one shows the first"), /* impl */
+    PHRASE("an implication is given, as the first row has its second part given and shows its first part negated, the second its first part"), /* impl */
     PHRASE("a formula is no longer given, and its negation is one more alternative"), /* notr */
     PHRASE("a formula that the first row has as an alternative and the second row as given is cut out, and the rest is joined"), /* rcut */
     PHRASE("the one set of atoms that is left as a model is not stable, as the second row shows, so any alternatives may stand"), /* unst */
-    PHRASE("the counter-case can be read off, as nothing but atoms, negated atoms and contradiction is left"), /* xini */
+    PHRASE("the counter-case can be read off, as there are only atoms, contradiction and negations of these"), /* xini */
     PHRASE("a double negation holds in the counter-case, as the single negation does not"), /* xnnl */
     PHRASE("a double negation does not hold in the counter-case, as the single negation does"), /* xnnr */
     PHRASE("a conjunction holds in the counter-case, as both its parts do"), /* xandl */

@@ -1,4 +1,4 @@
-/* Judges standard input through both C entries and prints the answer: number, tab, line. The entries must agree, and a refusal
+/* Judges standard input through `elk_check` and `elk_judge` and prints the answer: number, tab, line. The entries must agree, and a refusal
  * must leave nothing but zeros in tables that held other numbers before. */
 #include <stdio.h>
 #include <stdlib.h>

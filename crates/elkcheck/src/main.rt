@@ -1,6 +1,6 @@
 // Judges standard input: reads it to its end and prints refusal number, tab, line and line feed. Started with the word `words`
 // it prints the rows of an accepted file in words instead. If reading or writing fails it says so on standard error, and a
-// failed read leaves standard output empty: trouble never looks like a verdict.
+// failed read leaves standard output empty: trouble never looks like a verdict. A failed write may leave some sentences.
 ghost use Prim.Native.Nat.{_≤_};
 ghost use lib.ListN.{length};
 use answers::Answer;

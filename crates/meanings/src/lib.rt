@@ -83,11 +83,11 @@ pub fn put_meaning(rule: u16, out: &mut [u8], so_far: Written) -> Written
         each part of a given disjunction is taken in turn, the second with the first as one more alternative\
         an alternative is dropped, as its negation is given\
         an implication takes the place of its second part among the alternatives, and its first part is no longer given\
-        an implication is given, as one row has its second part given with the first negated as an alternative, and one shows the first\
+        an implication is given, as the first row has its second part given and shows its first part negated, the second its first part\
         a formula is no longer given, and its negation is one more alternative\
         a formula that the first row has as an alternative and the second row as given is cut out, and the rest is joined\
         the one set of atoms that is left as a model is not stable, as the second row shows, so any alternatives may stand\
-        the counter-case can be read off, as nothing but atoms, negated atoms and contradiction is left\
+        the counter-case can be read off, as there are only atoms, contradiction and negations of these\
         a double negation holds in the counter-case, as the single negation does not\
         a double negation does not hold in the counter-case, as the single negation does\
         a conjunction holds in the counter-case, as both its parts do\

@@ -1,4 +1,4 @@
--- A formula as tables tell it, from its parts; and that of a body which the tables hold.
+-- A formula as tables tell it, and its words, from those of its parts.
 use Prim.Native.Nat.{ℕ, zero, suc, _≤_, _<_}
 use native.Mathlib.Omega.{arith}
 use mathlib.Core.Bool.{Bool, true, false, cond}

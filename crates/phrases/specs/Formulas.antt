@@ -1,5 +1,5 @@
 -- A formula as tables tell it, whatever they hold. Where they hold the formulas of a body and the names of its atoms it is the
--- body's formula (proofs/TableFormulas).
+-- body's formula (proofs/HeldFormulas).
 use Prim.Native.Nat.{ℕ, zero, suc}
 use mathlib.Core.Bool.{cond}
 use mathlib.Core.List.{List}

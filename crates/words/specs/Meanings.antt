@@ -1,5 +1,5 @@
--- What each rule says, in English: 37 fixed phrases. In an ELK row some formulas are given, and one of the alternatives holds.
--- In a row of refutation there is a counter-case, in which some formulas hold and others do not.
+-- What each rule says, in English: 37 fixed phrases. In an ELK row some formulas are given, and in every equilibrium model at
+-- least one of the alternatives holds. In a row of refutation there is a counter-case, in which some formulas hold and others do not.
 use Prim.Native.Nat.{ℕ}
 use Prim.Native.String.{String}
 use mathlib.Core.List.{[], map}
@@ -21,11 +21,11 @@ meaningOf orr = "two alternatives are put together as their disjunction"
 meaningOf orl = "each part of a given disjunction is taken in turn, the second with the first as one more alternative"
 meaningOf notl = "an alternative is dropped, as its negation is given"
 meaningOf impr = "an implication takes the place of its second part among the alternatives, and its first part is no longer given"
-meaningOf impl = "an implication is given, as one row has its second part given with the first negated as an alternative, and one shows the first"
+meaningOf impl = "an implication is given, as the first row has its second part given and shows its first part negated, the second its first part"
 meaningOf notr = "a formula is no longer given, and its negation is one more alternative"
 meaningOf rcut = "a formula that the first row has as an alternative and the second row as given is cut out, and the rest is joined"
 meaningOf unst = "the one set of atoms that is left as a model is not stable, as the second row shows, so any alternatives may stand"
-meaningOf xini = "the counter-case can be read off, as nothing but atoms, negated atoms and contradiction is left"
+meaningOf xini = "the counter-case can be read off, as there are only atoms, contradiction and negations of these"
 meaningOf xnnl = "a double negation holds in the counter-case, as the single negation does not"
 meaningOf xnnr = "a double negation does not hold in the counter-case, as the single negation does"
 meaningOf xandl = "a conjunction holds in the counter-case, as both its parts do"

@@ -3,7 +3,7 @@
 use Prim.Native.Nat.{ℕ, _+_, _-_, _≤_, _<_}
 use native.Mathlib.Omega.{arith}
 use mathlib.Core.Bool.{Bool, true, false, cond, false≢true}
-use mathlib.Core.List.{[], _++_, append-assoc, append-nil}
+use mathlib.Core.List.{[], _∷_, _++_, append-assoc, append-nil}
 use mathlib.Core.Option.{none, some}
 use mathlib.Core.Path.{_≡_, refl, sym, ap, subst, _∙_}
 use borrow.Author.Tests.{lt-ltb, le-ltb, ltb-true, ltb-false}
@@ -11,8 +11,9 @@ use lib.Dec.{ltb}
 use lib.ListN.{length, take, drop, length-append, length-drop}
 use lib.Seq.{take-at, length-take-le, take-append-add, take-append-le}
 use Rattle.format.specs.Text.{Bytes}
+use Rattle.format.specs.Tests.{_when_, first}
 use Rattle.writer.specs.declared.Written.{Written}
-use Rattle.writer.specs.Writing.{noRoom, writtenAs, after, Writes}
+use Rattle.writer.specs.Writing.{noRoom, writtenAs, writtenRefusal, after, Writes}
 
 module _ (space at count : ℕ) where
   reach : Bool → Written
@@ -25,6 +26,16 @@ module _ (space at count : ℕ) where
   pub after-full : space < at + count → after space (Written.To at) count ≡ Written.NoRoom
   unfolding reach
   after-full h = ap reach (lt-ltb space (at + count) h)
+
+-- the number of an answer, where something was written before
+numbered : (space count : ℕ) (before : Written) {after′ : Written} → after′ ≡ after space before count
+    → (at : ℕ) → before ≡ Written.To at → writtenRefusal after′ ≡ first ((noRoom when ltb space (at + count)) ∷ [])
+numbered space count before e at f =
+    ap writtenRefusal (e ∙ ap (λ (w : Written). after space w count) f) ∙ by (ltb space (at + count))
+  where
+    by : (full : Bool) → writtenRefusal (writtenAs (cond full (some noRoom) none) (at + count)) ≡ cond full (some noRoom) none
+    by true = refl
+    by false = refl
 
 -- so many bytes and then so many are so many together
 after-after : (space : ℕ) (w : Written) (m n : ℕ) → after space (after space w m) n ≡ after space w (m + n)
@@ -47,7 +58,8 @@ pub placed-writes : (words text text′ : Bytes) (at : ℕ) → at + length word
     → text′ ≡ take at text ++ words ++ drop (at + length words) text → length text′ ≡ length text
     → Writes words text (Written.To at) text′ (Written.To (at + length words))
 placed-writes words text text′ at h e l =
-    record { length-kept = l; reached = sym (after-fits (length text) at (length words) h); in-front = front }
+    let far = sym (after-fits (length text) at (length words) h) in
+    record { length-kept = l; reached = far; refusal = numbered (length text) (length words) (Written.To at) far; in-front = front }
   where
     long : length (take at text ++ words) ≡ at + length words
     long = length-append (take at text) words ∙ ap (λ (k : ℕ). k + length words) (length-take-le at text (omega arith))
@@ -60,7 +72,8 @@ placed-writes words text text′ at h e l =
 -- no room for words
 pub full-writes : (words text : Bytes) (at : ℕ) → length text < at + length words → Writes words text (Written.To at) text Written.NoRoom
 full-writes words text at h =
-    record { length-kept = refl; reached = sym (after-full (length text) at (length words) h); in-front = front }
+    let far = sym (after-full (length text) at (length words) h) in
+    record { length-kept = refl; reached = far; refusal = numbered (length text) (length words) (Written.To at) far; in-front = front }
   where
     front : (a : ℕ) → Written.To at ≡ Written.To a → a + length words ≤ length text → take (a + length words) text ≡ take a text ++ words
     front a same fits = let e : at ≡ a = cc same in absurd (omega (arith, e, fits))
@@ -71,7 +84,13 @@ reaches Written.NoRoom = false
 
 -- no room before
 pub none-writes : (words text : Bytes) → Writes words text Written.NoRoom text Written.NoRoom
-none-writes words text = record { length-kept = refl; reached = refl; in-front = λ a e h. absurd (false≢true (ap reaches e)) }
+none-writes words text =
+    record {
+      length-kept = refl;
+      reached = refl;
+      refusal = λ a e. absurd (false≢true (ap reaches e));
+      in-front = λ a e h. absurd (false≢true (ap reaches e));
+    }
 
 module _ {words text text′ : Bytes} {w r : Written} where
   -- what was written before, and the words, by other names
@@ -85,7 +104,12 @@ module _ {words text text′ : Bytes} {w r : Written} where
 pub writes-then : {first second text text₁ text₂ : Bytes} {w w₁ w₂ : Written}
     → Writes first text w text₁ w₁ → Writes second text₁ w₁ text₂ w₂ → Writes (first ++ second) text w text₂ w₂
 writes-then {first} {second} {text} {text₁} {text₂} {w} {w₁} {w₂} p q =
-    record { length-kept = q .length-kept ∙ p .length-kept; reached = far; in-front = front }
+    record {
+      length-kept = q .length-kept ∙ p .length-kept;
+      reached = far;
+      refusal = numbered (length text) (length (first ++ second)) w far;
+      in-front = front;
+    }
   where
     both : length (first ++ second) ≡ length first + length second
     both = length-append first second
@@ -116,7 +140,8 @@ writes-then {first} {second} {text} {text₁} {text₂} {w} {w₁} {w₂} p q =
 
 -- after words that were written, nothing more is written as it stands
 pub writes-nothing : {words text text′ : Bytes} {w r : Written} → Writes words text w text′ r → Writes [] text′ r text′ r
-writes-nothing {words} {text} {text′} {w} {r} p = record { length-kept = refl; reached = far; in-front = front }
+writes-nothing {words} {text} {text′} {w} {r} p =
+    record { length-kept = refl; reached = far; refusal = numbered (length text′) 0 r far; in-front = front }
   where
     none-more : length words + 0 ≡ length words
     none-more = omega arith
@@ -209,7 +234,8 @@ module _ (text : Bytes) (start : ℕ) (inside : start ≤ length text) where
   -- what is written at the start of the rest is written after what stands before it
   pub writes-rest : {words part : Bytes} {r : Written} → Writes words lent (Written.To 0) part r
       → Writes words text (Written.To start) (backFrom text start part) (further-on start r)
-  writes-rest {words} {part} {r} p = record { length-kept = kept; reached = far; in-front = front }
+  writes-rest {words} {part} {r} p =
+      record { length-kept = kept; reached = far; refusal = numbered (length text) (length words) (Written.To start) far; in-front = front }
     where
       part-length : length part ≡ length text - start
       part-length = p .length-kept ∙ lent-length

@@ -18,6 +18,11 @@ abbrev pub writtenAs : Option ℕ → ℕ → Written
 writtenAs none end = Written.To end
 writtenAs (some n) end = Written.NoRoom
 
+-- 02's number of each answer
+abbrev pub writtenRefusal : Written → Option ℕ
+writtenRefusal (Written.To end) = none
+writtenRefusal Written.NoRoom = some noRoom
+
 -- so many bytes more in a lent text of this length: 14 applies where they do not fit
 abbrev pub after : ℕ → Written → ℕ → Written
 after space (Written.To at) count = writtenAs (first ((noRoom when ltb space (at + count)) ∷ [])) (at + count)
@@ -32,4 +37,5 @@ front text Written.NoRoom = []
 pub record Writes (words text : Bytes) (before : Written) (text′ : Bytes) (after′ : Written) : Type 0 where
   pub length-kept : length text′ ≡ length text
   pub reached : after′ ≡ after (length text) before (length words)
+  pub refusal : (at : ℕ) → before ≡ Written.To at → writtenRefusal after′ ≡ first ((noRoom when ltb (length text) (at + length words)) ∷ [])
   pub in-front : (at : ℕ) → before ≡ Written.To at → at + length words ≤ length text → take (at + length words) text′ ≡ take at text ++ words

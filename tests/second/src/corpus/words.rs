@@ -36,7 +36,7 @@ pub const SENTENCES: [(&str, &str); 37] = [
     ("rule_impr/plain",
         r#"Row 1: an implication takes the place of its second part among the alternatives, and its first part is no longer given; about the formula (if "p" then "q"); from row 0; if these are all that is given: "c", "g"; then in every equilibrium model at least one of these alternatives holds: "c", "h", (if "p" then "q")."#),
     ("rule_impl/bare",
-        r#"Row 2: an implication is given, as one row has its second part given with the first negated as an alternative, and one shows the first; about the formula (if "p" then "q"); from row 0 and row 1; if these are all that is given: "c", (if "p" then "q"); then in every equilibrium model at least one of these alternatives holds: "c"."#),
+        r#"Row 2: an implication is given, as the first row has its second part given and shows its first part negated, the second its first part; about the formula (if "p" then "q"); from row 0 and row 1; if these are all that is given: "c", (if "p" then "q"); then in every equilibrium model at least one of these alternatives holds: "c"."#),
     ("rule_notr/bare",
         r#"Row 1: a formula is no longer given, and its negation is one more alternative; about the formula not "p"; from row 0; if these are all that is given: "c"; then in every equilibrium model at least one of these alternatives holds: "c", not "p"."#),
     ("rule_rcut/two_succedents_join",
@@ -44,7 +44,7 @@ pub const SENTENCES: [(&str, &str); 37] = [
     ("rule_unst/all_chosen",
         r#"Row 27: the one set of atoms that is left as a model is not stable, as the second row shows, so any alternatives may stand; about no single formula; from row 21 and row 26; if these are all that is given: not not "q", not not "p"; then there is no equilibrium model."#),
     ("rule_xini/all_that_it_allows",
-        r#"Row 0: the counter-case can be read off, as nothing but atoms, negated atoms and contradiction is left; about no single formula; from no other row; there is a counter-case in here-and-there where all of these hold: not contradiction, "p", not "q"; and none of these holds: contradiction, "q", "r", not "r", not "p"."#),
+        r#"Row 0: the counter-case can be read off, as there are only atoms, contradiction and negations of these; about no single formula; from no other row; there is a counter-case in here-and-there where all of these hold: not contradiction, "p", not "q"; and none of these holds: contradiction, "q", "r", not "r", not "p"."#),
     ("rule_xnnl/bare",
         r#"Row 1: a double negation holds in the counter-case, as the single negation does not; about the formula not not "p"; from row 0; there is a counter-case in here-and-there where all of these hold: not not "p"; and nothing need fail."#),
     ("rule_xnnr/compound_parts",
@@ -96,7 +96,7 @@ pub const WHOLE_FILE: &str = r#"Row 0: a given formula is itself one of the alte
 Row 1: an alternative is dropped, as its negation is given; about the formula not "p"; from row 0; if these are all that is given: "p", not "p"; then in every equilibrium model at least one of these alternatives holds: contradiction.
 Row 2: a formula is no longer given, and its negation is one more alternative; about the formula not not "p"; from row 1; if these are all that is given: "p"; then in every equilibrium model at least one of these alternatives holds: contradiction, not not "p".
 Row 3: only atoms are given, so the negation of an atom that is not given holds by default; about the formula not "p"; from no other row; if nothing is given; then in every equilibrium model at least one of these alternatives holds: not "p", contradiction.
-Row 4: an implication is given, as one row has its second part given with the first negated as an alternative, and one shows the first; about the formula (if not "p" then "p"); from row 2 and row 3; if these are all that is given: (if not "p" then "p"); then in every equilibrium model at least one of these alternatives holds: contradiction.
+Row 4: an implication is given, as the first row has its second part given and shows its first part negated, the second its first part; about the formula (if not "p" then "p"); from row 2 and row 3; if these are all that is given: (if not "p" then "p"); then in every equilibrium model at least one of these alternatives holds: contradiction.
 "#;
 
 /// What the rule means: the words between the first colon and the first semicolon of its
@@ -307,9 +307,9 @@ const LONG_NAMES_TOLD: &str = r#"Row 0: a given formula is itself one of the alt
 const EMPTY_SIDES: &str = "A 0 p / F 0 bot - - / F 1 atom 0 - / F 2 not 1 - / \
     N 0 xini - - - - / N 1 xini - - - 1 / N 2 xini - - 1 - / N 3 def 2 - - 2 / N 4 same 0 - 0 0 / N 5 bot 0 4 0 - / C 0 -";
 
-const EMPTY_SIDES_TOLD: &str = r#"Row 0: the counter-case can be read off, as nothing but atoms, negated atoms and contradiction is left; about no single formula; from no other row; there is a counter-case in here-and-there where nothing need hold; and nothing need fail.
-Row 1: the counter-case can be read off, as nothing but atoms, negated atoms and contradiction is left; about no single formula; from no other row; there is a counter-case in here-and-there where nothing need hold; and none of these holds: "p".
-Row 2: the counter-case can be read off, as nothing but atoms, negated atoms and contradiction is left; about no single formula; from no other row; there is a counter-case in here-and-there where all of these hold: "p"; and nothing need fail.
+const EMPTY_SIDES_TOLD: &str = r#"Row 0: the counter-case can be read off, as there are only atoms, contradiction and negations of these; about no single formula; from no other row; there is a counter-case in here-and-there where nothing need hold; and nothing need fail.
+Row 1: the counter-case can be read off, as there are only atoms, contradiction and negations of these; about no single formula; from no other row; there is a counter-case in here-and-there where nothing need hold; and none of these holds: "p".
+Row 2: the counter-case can be read off, as there are only atoms, contradiction and negations of these; about no single formula; from no other row; there is a counter-case in here-and-there where all of these hold: "p"; and nothing need fail.
 Row 3: only atoms are given, so the negation of an atom that is not given holds by default; about the formula not "p"; from no other row; if nothing is given; then in every equilibrium model at least one of these alternatives holds: not "p".
 Row 4: a given formula is itself one of the alternatives; about the formula contradiction; from no other row; if these are all that is given: contradiction; then in every equilibrium model at least one of these alternatives holds: contradiction.
 Row 5: contradiction is dropped from the alternatives, as it never holds; about the formula contradiction; from row 4; if these are all that is given: contradiction; then there is no equilibrium model.
