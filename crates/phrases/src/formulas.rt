@@ -67,7 +67,7 @@ fn put_connective(word: u16, out: &mut [u8], so_far: Written) -> Written
     put(b" then ", out, so_far)
 }
 
-pub fn put_formula(
+pub(crate) fn put_formula(
     text: &[u8],
     names: &[u16],
     formulas: &[u16],

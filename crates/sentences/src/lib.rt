@@ -80,7 +80,7 @@ fn put_sequent<'a>(
 }
 
 // The sentence of a row, written at the start of what is left of a lent text: how many bytes it takes, or that there is no room.
-pub fn put_sentence<'a>(
+pub(crate) fn put_sentence<'a>(
     text: &[u8],
     names: &[u16],
     formulas: &[u16],

@@ -38,7 +38,9 @@ returns : tie.Need-returns
 returns c = search needs
 
 slice-aggregate-print-held : tie.Need-slice-aggregate-print-held
-slice-aggregate-print-held c = sym (c .before .before .before .before .before .before .before .before .before .tell .kept .1 .1 .1 .1 .1 .1 .0 ∙ sym (as-long 1048576))
+slice-aggregate-print-held c =
+    let told = c .before .before .before .before .before .before .before .before .before .tell in
+    sym (told .kept .1 .1 .1 .1 .1 .1 .0 ∙ sym (as-long 1048576))
 
 print-held-requires : tie.Need-print-held-requires
 print-held-requires c κs = search needs
