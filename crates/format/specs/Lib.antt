@@ -3,6 +3,7 @@ pub mod File
 pub mod Line
 pub mod Tables
 pub mod Tests
+pub mod Model
 pub mod Judged
 pub mod Good
 pub mod Passing
