@@ -249,7 +249,7 @@ choice-unique : (c : Choice) (Fs : List Formula) → Fs ≈ (joined (map literal
 choice-unique c [] e = absurd (List·Memᴰ·not-nil (e .1 _ (List·Memᴰ·head refl)))
 choice-unique c (F ∷ Fs) e = ap literals (List·Memᴰ·eq-of-singleton (e .0 F (List·Memᴰ·head refl))) ∙ literals-joined c
 
-atoms-part : {L M : List Formula} → L ⊆ M → atomsIn L ⊆ atomsIn M
+pub atoms-part : {L M : List Formula} → L ⊆ M → atomsIn L ⊆ atomsIn M
 atoms-part {L = []} s p m = absurd (List·Memᴰ·not-nil m)
 atoms-part {L = A ∷ L} s p m =
     ⊎-elim (occurs (s A (List·Memᴰ·head refl)) p) (atoms-part (λ B k. s B (List·Memᴰ·tail k)) p) (List·Memᴰ·append-cases (atomsOf A) m)

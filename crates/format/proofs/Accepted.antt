@@ -1,12 +1,12 @@
 -- What acceptance shows: the rows of an accepted text, decoded, are a derivation that ends in its claim; so its claim
--- does not fail.
+-- does not fail. And the claim is confirmed by a model, or shows a contradiction.
 use Prim.Native.Nat.{ℕ}
 use native.Mathlib.Omega.{arith}
 use mathlib.Core.Path.{_≡_, refl, sym, ap, subst, subst₃, _∙_}
 use mathlib.Core.Bool.{true, _&&_, false≢true}
 use mathlib.Core.List.{List, [], _∷_, _++_}
 use mathlib.Core.Option.{Option, none, some}
-use Rattle.equilibrium.specs.Meaning.{_≈_, Fails}
+use Rattle.equilibrium.specs.Meaning.{_∈_, _≈_, Fails}
 use Rattle.equilibrium.proofs.Sets.{≈-refl}
 use Rattle.equilibrium.proofs.Models.{entails-not-fails}
 use Rattle.elk.specs.Sequent.{Kind, elk, refutation}
@@ -15,13 +15,16 @@ use Rattle.elk.specs.Derivation.{Derivation, EndsIn}
 use Rattle.elk.proofs.Soundness.{ends-in-sound}
 use Rattle.format.specs.Text.{Bytes, linesOf, sameList}
 use Rattle.format.specs.File.{Node, Row, Claim, File, noFile, sequentOf, decoded}
+use Rattle.format.specs.Line.{claimLine, lineOf}
 use Rattle.format.specs.Tables.{Lent}
 use Rattle.format.specs.Tests.{first, sameKind, lastIs}
+use Rattle.format.specs.Model.{Shown}
 use Rattle.format.specs.Judged.{Outcome, next, refused, top, beginning, accepted, turnedDown}
-use Rattle.format.specs.Judged.{orNoClaim, finish, answerFrom, wholeTests, orWhole, judged, Said, ClaimFails}
+use Rattle.format.specs.Judged.{orNoClaim, finish, answerFrom, wholeTests, orWhole, judged, Said, ClaimFails, ClaimShown}
 use Rattle.format.proofs.Booleans.{and-true, same-list}
 use Rattle.format.specs.Good.{derived, Good}
 use Rattle.format.proofs.GoodBodies.{derived-snoc, good-derivation}
+use Rattle.format.proofs.Confirmation.{confirmed-shown}
 use Rattle.format.proofs.Beginnings.{run-good, good-start}
 
 -- an accepted text: the file that its lines come to, and its claim
@@ -133,3 +136,34 @@ accepted-holds t text line e bad = entails-not-fails (ends-in-sound (accepted-de
         let same-nodes = ap (λ (s : Said). s .nodes) (g .said) in
         subst (λ (c : Claim). Fails (decoded nodes (c .left)) (decoded nodes (c .right))) same-claim
         (subst₃ (λ (ns : List Node) (l r : List ℕ). Fails (decoded ns l) (decoded ns r)) same-nodes (sym (own .2)) (sym (own .3)) (bad .fails))
+
+-- and it is confirmed by the model on its M line, or shows a contradiction
+pub accepted-shown : (t : Lent) (text : Bytes) (line : ℕ) → judged t text ≡ accepted line → ClaimShown text
+accepted-shown t text line e =
+    record {
+      line = made .0;
+      left = a .claim .left;
+      right = a .claim .right;
+      in-text = made .1;
+      is-claim = made .2;
+      only = only;
+      shown =
+          subst (λ (s : Said). Shown (decoded (s .nodes) (a .claim .left)) (decoded (s .nodes) (a .claim .right)) (s .model)) (sym (g .said))
+          (confirmed-shown _ _ (ends-in-sound (accepted-derives a)) (g .confirmed (a .claim) (a .is-claim)));
+    }
+  where
+    a : Accepted text line
+    a = accepted-file t text line e
+
+    g : Good (linesOf text .complete) (a .file)
+    g = accepted-good a
+
+    made : (m : Bytes) × (m ∈ linesOf text .complete) × (lineOf m ≡ some (claimLine (a .claim .left) (a .claim .right)))
+    made = g .claim-said (a .claim) (a .is-claim)
+
+    only : (m : Bytes) (l r : List ℕ) → m ∈ linesOf text .complete → lineOf m ≡ some (claimLine l r) → (l ≡ a .claim .left) × (r ≡ a .claim .right)
+    only m l r i k =
+        let own = g .claims-read m l r i k in
+        let same : _≡_ {A = Option Claim} (some (own .0)) (some (a .claim)) = sym (own .1) ∙ a .is-claim in
+        let claim : own .0 ≡ a .claim = cc in
+        (sym (own .2) ∙ ap (λ (c : Claim). c .left) claim, sym (own .3) ∙ ap (λ (c : Claim). c .right) claim)

@@ -11,10 +11,12 @@ use mathlib.Core.List.{
   map-append,
   append-nil,
   append-assoc,
+  List·Memᴰ·head,
   List·Memᴰ·not-nil,
   List·Memᴰ·cases-cons,
   List·Memᴰ·append-cases,
   List·Memᴰ·eq-of-singleton,
+  Memᴰ·append-right,
 }
 use mathlib.Core.Logic.{_⊎_, inl, inr, ⊎-elim}
 use mathlib.Core.Option.{Option, none, some}
@@ -22,10 +24,11 @@ use lib.ListN.{length, length-append, length-map}
 use borrow.Author.Tests.{leb-false}
 use Rattle.equilibrium.specs.Meaning.{_∈_}
 use Rattle.format.specs.Text.{Bytes, isName, any, sameList}
-use Rattle.format.specs.File.{Node, Row, Name, Claim, Body, in-atoms, in-formulas, in-rows, claimed, File, noFile}
-use Rattle.format.specs.Line.{Line, atomLine, formulaLine, rowLine, claimLine, lineOf}
+use Rattle.format.specs.File.{Node, Row, Name, Model, Claim, Body, in-atoms, in-formulas, in-rows, modelled, claimed, File, noFile, atomsGiven, decoded}
+use Rattle.format.specs.Line.{Line, atomLine, formulaLine, rowLine, modelLine, claimLine, lineOf}
 use Rattle.format.specs.Tables.{mostAtoms}
-use Rattle.format.specs.Tests.{Test, _when_, first, rank, outOfOrder, lastIs, atomTests, nodeTests, formulaTests, bodyTests, rowTests, claimTests}
+use Rattle.format.specs.Tests.{Test, _when_, first, rank, outOfOrder, lastIs, atomTests, nodeTests, formulaTests, bodyTests, rowTests, modelLineTests, claimTests}
+use Rattle.format.specs.Model.{Confirmed, confirmationTests}
 use Rattle.format.specs.Judged.{
   Place,
   Outcome,
@@ -41,21 +44,24 @@ use Rattle.format.specs.Judged.{
   withAtom,
   withNode,
   withRow,
+  withModel,
   withClaim,
+  reportedOn,
   nameStart,
   Said,
   saying,
   saidAfter,
   saidBy,
 }
-use Rattle.format.specs.Good.{bare, GoodBody, atoms, formula, row, spellings, GoodNames, Good}
+use Rattle.format.specs.Good.{bare, GoodBody, atoms, formula, row, spellings, GoodNames, GoodModel, Good}
 use Rattle.format.proofs.Booleans.{or-false, not-false, list-same}
-use Rattle.format.proofs.Tested.{passes, follows, in-order}
+use Rattle.format.proofs.Tested.{passes, follows-once, in-order}
 use Rattle.format.proofs.GoodBodies.{Distinct, distinct-snoc}
+use Rattle.format.proofs.Confirmation.{model-passes-iff}
 
-settled-next : (o : Option ℕ) (p : Place) (f t : File) → settled o p f ≡ next t → (o ≡ none) × (f ≡ t)
-settled-next none p f t e = (refl, cc)
-settled-next (some n) p f t e = let z : _≡_ {A = ℕ} 0 1 = cc in absurd (omega arith)
+settled-next : (o : Option ℕ) (line : ℕ) (f t : File) → settled o line f ≡ next t → (o ≡ none) × (f ≡ t)
+settled-next none line f t e = (refl, cc)
+settled-next (some n) line f t e = let z : _≡_ {A = ℕ} 0 1 = cc in absurd (omega arith)
 
 -- what one line more says
 said-snoc : (s : Said) (ls : List Bytes) (l : Bytes) → saidAfter s (ls ++ l ∷ []) ≡ saying (saidAfter s ls) (lineOf l)
@@ -64,7 +70,7 @@ said-snoc s (k ∷ ks) l = said-snoc (saying s (lineOf k)) ks l
 
 -- what a file's lines have said
 abbrev heard : File → Said
-heard f = record { names = spellings (f .names); nodes = f .body .nodes }
+heard f = record { names = spellings (f .names); nodes = f .body .nodes; model = atomsGiven (f .model) }
 
 said-with : {done : List Bytes} {f : File} (line : Bytes) (o : Option Line) → Good done f → lineOf line ≡ o → saidBy (done ++ line ∷ []) ≡ saying (heard f) o
 said-with {done} line o g e = said-snoc _ done line ∙ ap₂ saying (g .said) e
@@ -86,6 +92,10 @@ later-none t ts e = cases (t .applies) e
     cases : (b : Bool) → cond b (some (t .number)) (first ts) ≡ none → first ts ≡ none
     cases true k = let z : _≡_ {A = ℕ} 0 1 = cc in absurd (omega arith)
     cases false k = k
+
+-- what is absent is not this
+no-such : {X : Type 0} {o : Option X} {x : X} → o ≡ none → o ≡ some x → ⊥
+no-such a s = let z : _≡_ {A = ℕ} 0 1 = cc in omega arith
 
 -- a body of atoms alone
 only-atoms : (b : Body) → b .nodes ≡ [] → b .rows ≡ [] → b ≡ bare (b .atoms)
@@ -140,27 +150,35 @@ module _ {done : List Bytes} {f : File} (line : Bytes) (g : Good done f) where
         names = names-with at name (g .names) (not-false _ (six .0)) (six .1);
         no-nodes = λ h. nodes;
         no-rows = λ h. rows;
+        no-model = λ h. model;
+        model-made = λ k. absurd (omega (arith, ap rank k));
+        model = λ m k. absurd (no-such model k);
         no-claim = λ h. claim;
         claim-made = λ h. absurd (omega arith);
         said =
             said-with line _ g e
-            ∙ ap (λ (xs : List Bytes). record { names = xs; nodes = f .body .nodes })
+            ∙ ap (λ (xs : List Bytes). record { names = xs; nodes = f .body .nodes; model = atomsGiven (f .model) })
             (sym (map-append (λ (m : Name). m .name) (f .names) (record { start = at; name = name } ∷ [])));
         claims-read = claims-kept line (withAtom f at name) g refl (λ l r k. let z : _≡_ {A = ℕ} 0 1 = cc in omega arith);
-        claim-last = g .claim-last;
+        claim-said = λ c k. absurd (no-such claim k);
+        claim-last = λ c k. absurd (no-such claim k);
+        confirmed = λ c k. absurd (no-such claim k);
       }
     where
-      order : (rank (f .stage) ≤ 0) × (rank (f .stage) < 3)
+      order : rank (f .stage) ≤ 0
       order = in-order (f .stage) in-atoms (f .body .atoms) n (passes 4 (atomTests f n name) through)
 
       nodes : f .body .nodes ≡ []
-      nodes = g .no-nodes (order .0)
+      nodes = g .no-nodes order
 
       rows : f .body .rows ≡ []
-      rows = g .no-rows (omega (arith, order .0))
+      rows = g .no-rows (omega (arith, order))
+
+      model : f .model ≡ none
+      model = g .no-model (omega (arith, order))
 
       claim : f .claim ≡ none
-      claim = g .no-claim (omega (arith, order .0))
+      claim = g .no-claim (omega (arith, order))
 
       room : f .body .atoms < mostAtoms
       room = leb-false mostAtoms (f .body .atoms) (passes 5 (atomTests f n name) through)
@@ -177,21 +195,29 @@ module _ {done : List Bytes} {f : File} (line : Bytes) (g : Good done f) where
         names = g .names;
         no-nodes = λ h. absurd (omega arith);
         no-rows = λ h. rows;
+        no-model = λ h. model;
+        model-made = λ k. absurd (omega (arith, ap rank k));
+        model = λ m k. absurd (no-such model k);
         no-claim = λ h. claim;
         claim-made = λ h. absurd (omega arith);
         said = said-with line _ g e;
         claims-read = claims-kept line (withNode f node) g refl (λ l r k. let z : _≡_ {A = ℕ} 0 1 = cc in omega arith);
-        claim-last = g .claim-last;
+        claim-said = λ c k. absurd (no-such claim k);
+        claim-last = λ c k. absurd (no-such claim k);
+        confirmed = λ c k. absurd (no-such claim k);
       }
     where
-      order : (rank (f .stage) ≤ 1) × (rank (f .stage) < 3)
+      order : rank (f .stage) ≤ 1
       order = in-order (f .stage) in-formulas (length (f .body .nodes)) n (passes 4 (formulaTests f n node) through)
 
       rows : f .body .rows ≡ []
-      rows = g .no-rows (order .0)
+      rows = g .no-rows order
+
+      model : f .model ≡ none
+      model = g .no-model (omega (arith, order))
 
       claim : f .claim ≡ none
-      claim = g .no-claim (omega (arith, order .0))
+      claim = g .no-claim (omega (arith, order))
 
   row-good : (n : ℕ) (r : Row) → lineOf line ≡ some (rowLine n r) → first (rowTests f n r) ≡ none → Good (done ++ line ∷ []) (withRow f r)
   row-good n r e through =
@@ -200,36 +226,87 @@ module _ {done : List Bytes} {f : File} (line : Bytes) (g : Good done f) where
         names = g .names;
         no-nodes = λ h. absurd (omega arith);
         no-rows = λ h. absurd (omega arith);
+        no-model = λ h. model;
+        model-made = λ k. absurd (omega (arith, ap rank k));
+        model = λ m k. absurd (no-such model k);
         no-claim = λ h. claim;
         claim-made = λ h. absurd (omega arith);
         said = said-with line _ g e;
         claims-read = claims-kept line (withRow f r) g refl (λ l q k. let z : _≡_ {A = ℕ} 0 1 = cc in omega arith);
-        claim-last = λ c k. let z : _≡_ {A = Option Claim} none (some c) = sym claim ∙ k in let w : _≡_ {A = ℕ} 0 1 = cc in absurd (omega arith);
+        claim-said = λ c k. absurd (no-such claim k);
+        claim-last = λ c k. absurd (no-such claim k);
+        confirmed = λ c k. absurd (no-such claim k);
       }
     where
-      order : (rank (f .stage) ≤ 2) × (rank (f .stage) < 3)
+      order : rank (f .stage) ≤ 2
       order = in-order (f .stage) in-rows (length (f .body .rows)) n (passes 4 (rowTests f n r) through)
 
-      claim : f .claim ≡ none
-      claim = g .no-claim (order .0)
+      model : f .model ≡ none
+      model = g .no-model order
 
-  claim-good : (at : ℕ) (left right : List ℕ) → lineOf line ≡ some (claimLine left right) → first (claimTests f left right) ≡ none
-      → Good (done ++ line ∷ []) (withClaim f (record { line = at; left = left; right = right }))
-  claim-good at left right e through =
+      claim : f .claim ≡ none
+      claim = g .no-claim (omega (arith, order))
+
+  model-good : (at : ℕ) (given : List ℕ) → lineOf line ≡ some (modelLine given) → first (modelLineTests f given) ≡ none
+      → Good (done ++ line ∷ []) (withModel f (record { line = at; atoms = given }))
+  model-good at given e through =
       record {
         body = g .body;
         names = g .names;
         no-nodes = λ h. absurd (omega arith);
         no-rows = λ h. absurd (omega arith);
+        no-model = λ h. absurd (omega arith);
+        model-made = λ k. (record { line = at; atoms = given }, refl);
+        model = λ m k. own m (cc);
+        no-claim = λ h. claim;
+        claim-made = λ h. absurd (omega arith);
+        said = said-with line _ g e;
+        claims-read =
+            claims-kept line (withModel f (record { line = at; atoms = given })) g refl (λ l r k. let z : _≡_ {A = ℕ} 0 1 = cc in omega arith);
+        claim-said = λ c k. absurd (no-such claim k);
+        claim-last = λ c k. absurd (no-such claim k);
+        confirmed = λ c k. absurd (no-such claim k);
+      }
+    where
+      order : rank (f .stage) < 3
+      order = follows-once (f .stage) modelled (omega arith) (not-false _ (passes 4 (modelLineTests f given) through))
+
+      claim : f .claim ≡ none
+      claim = g .no-claim (omega (arith, order))
+
+      own : (m : Model) → record { line = at; atoms = given } ≡ m → GoodModel (f .body .atoms) (m .atoms)
+      own m k =
+          subst (λ (m : Model). GoodModel (f .body .atoms) (m .atoms)) k
+          (record { known = passes 7 (modelLineTests f given) through; side = passes 9 (modelLineTests f given) through })
+
+  claim-good : (at : ℕ) (left right : List ℕ) → lineOf line ≡ some (claimLine left right) → first (claimTests f left right) ≡ none
+      → first (confirmationTests f left right) ≡ none → Good (done ++ line ∷ []) (withClaim f (record { line = at; left = left; right = right }))
+  claim-good at left right e through confirming =
+      record {
+        body = g .body;
+        names = g .names;
+        no-nodes = λ h. absurd (omega arith);
+        no-rows = λ h. absurd (omega arith);
+        no-model = λ h. absurd (omega arith);
+        model-made = λ k. absurd (omega (arith, ap rank k));
+        model = g .model;
         no-claim = λ h. absurd (omega arith);
         claim-made = λ h. (record { line = at; left = left; right = right }, refl);
         said = said-with line _ g e;
         claims-read = claims;
+        claim-said = λ c k. (line, Memᴰ·append-right done (List·Memᴰ·head refl), said-here c (cc));
         claim-last = λ c k. last c (cc);
+        confirmed = λ c k. own c (cc);
       }
     where
       claim : f .claim ≡ none
-      claim = g .no-claim (omega (arith, follows (f .stage) claimed (not-false _ (passes 4 (claimTests f left right) through)) .1))
+      claim = g .no-claim (omega (arith, follows-once (f .stage) claimed (omega arith) (not-false _ (passes 4 (claimTests f left right) through))))
+
+      own : (c : Claim) → record { line = at; left = left; right = right } ≡ c
+          → Confirmed (decoded (f .body .nodes) (c .left)) (decoded (f .body .nodes) (c .right)) (atomsGiven (f .model))
+      own c k =
+          subst (λ (d : Claim). Confirmed (decoded (f .body .nodes) (d .left)) (decoded (f .body .nodes) (d .right)) (atomsGiven (f .model))) k
+          (model-passes-iff _ _ (atomsGiven (f .model)) .0 confirming)
 
       claims : (m : Bytes) (l r : List ℕ) → m ∈ done ++ line ∷ [] → lineOf m ≡ some (claimLine l r)
           → (c : Claim) × (withClaim f (record { line = at; left = left; right = right }) .claim ≡ some c) × (c .left ≡ l) × (c .right ≡ r)
@@ -249,6 +326,9 @@ module _ {done : List Bytes} {f : File} (line : Bytes) (g : Good done f) where
               let same : _≡_ {A = Option Line} (some (claimLine left right)) (some (claimLine l r)) = sym e ∙ sym read ∙ k in
               (record { line = at; left = left; right = right }, refl, cc, cc)
 
+      said-here : (c : Claim) → record { line = at; left = left; right = right } ≡ c → lineOf line ≡ some (claimLine (c .left) (c .right))
+      said-here c k = subst (λ (d : Claim). lineOf line ≡ some (claimLine (d .left) (d .right))) k e
+
       last : (c : Claim) → record { line = at; left = left; right = right } ≡ c → lastIs (f .body .rows) (c .left) (c .right) ≡ true
       last c k = subst (λ (d : Claim). lastIs (f .body .rows) (d .left) (d .right) ≡ true) k (not-false _ (passes 12 (claimTests f left right) through))
 
@@ -256,15 +336,22 @@ pub step-good : {done : List Bytes} {f t : File} (p : Place) (line : Bytes) → 
 unfolding step stepRead
 step-good {done} {f} {t} p line g e = read (lineOf line) refl e
   where
-    settle : (o : Option ℕ) (u : File) → settled o p u ≡ next t → (o ≡ none → Good (done ++ line ∷ []) u) → Good (done ++ line ∷ []) t
-    settle o u k good = let s = settled-next o p u t k in subst (Good (done ++ line ∷ [])) (s .1) (good (s .0))
+    settle : (o : Option ℕ) (at : ℕ) (u : File) → settled o at u ≡ next t → (o ≡ none → Good (done ++ line ∷ []) u) → Good (done ++ line ∷ []) t
+    settle o at u k good = let s = settled-next o at u t k in subst (Good (done ++ line ∷ [])) (s .1) (good (s .0))
+
+    claim : (l r : List ℕ) → lineOf line ≡ some (claimLine l r) → (o : Option ℕ) → first (claimTests f l r) ≡ o
+        → after (settled o (p .line) f) (λ g. settled (first (confirmationTests g l r)) (reportedOn (g .model) (p .line))
+        (withClaim g (record { line = p .line; left = l; right = r }))) ≡ next t → Good (done ++ line ∷ []) t
+    claim l r q none through k = settle (first (confirmationTests f l r)) _ _ k (claim-good line g (p .line) l r q through)
+    claim l r q (some n) through k = let z : _≡_ {A = ℕ} 0 1 = cc in absurd (omega arith)
 
     read : (o : Option Line) → lineOf line ≡ o → orBadLine o p (stepRead f p line) ≡ next t → Good (done ++ line ∷ []) t
     read none q k = let z : _≡_ {A = ℕ} 0 1 = cc in absurd (omega arith)
-    read (some (atomLine n name)) q k = settle (first (atomTests f n name)) _ k (atom-good line g n (nameStart p line) name q)
-    read (some (formulaLine n node)) q k = settle (first (formulaTests f n node)) _ k (formula-good line g n node q)
-    read (some (rowLine n r)) q k = settle (first (rowTests f n r)) _ k (row-good line g n r q)
-    read (some (claimLine l r)) q k = settle (first (claimTests f l r)) _ k (claim-good line g (p .line) l r q)
+    read (some (atomLine n name)) q k = settle (first (atomTests f n name)) _ _ k (atom-good line g n (nameStart p line) name q)
+    read (some (formulaLine n node)) q k = settle (first (formulaTests f n node)) _ _ k (formula-good line g n node q)
+    read (some (rowLine n r)) q k = settle (first (rowTests f n r)) _ _ k (row-good line g n r q)
+    read (some (modelLine given)) q k = settle (first (modelLineTests f given)) _ _ k (model-good line g (p .line) given q)
+    read (some (claimLine l r)) q k = claim l r q (first (claimTests f l r)) refl k
 
 pub run-good : {done : List Bytes} {f t : File} (p : Place) (lines : List Bytes) → Good done f → run step p lines f ≡ next t → Good (done ++ lines) t
 unfolding run
@@ -286,9 +373,14 @@ good-start =
       names = record { count = refl; form = λ n m. absurd (List·Memᴰ·not-nil m); distinct = λ i j h k e. absurd (omega arith) };
       no-nodes = λ h. refl;
       no-rows = λ h. refl;
+      no-model = λ h. refl;
+      model-made = λ k. absurd (omega (arith, ap rank k));
+      model = λ m k. absurd (no-such refl k);
       no-claim = λ h. refl;
       claim-made = λ h. absurd (omega arith);
       said = refl;
       claims-read = λ line l r m e. absurd (List·Memᴰ·not-nil m);
-      claim-last = λ c e. let z : _≡_ {A = ℕ} 0 1 = cc in absurd (omega arith);
+      claim-said = λ c k. absurd (no-such refl k);
+      claim-last = λ c k. absurd (no-such refl k);
+      confirmed = λ c k. absurd (no-such refl k);
     }

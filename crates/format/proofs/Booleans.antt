@@ -3,11 +3,12 @@ use Prim.Native.Nat.{ℕ}
 use mathlib.Core.Path.{_≡_, refl, sym, subst}
 use mathlib.Core.Bool.{Bool, true, false, not, _||_, _&&_, true≢false, false≢true}
 use mathlib.Core.List.{List, [], _∷_, List·Memᴰ·head, List·Memᴰ·tail, List·Memᴰ·not-nil, List·Memᴰ·cases-cons}
-use mathlib.Core.Logic.{⊎-elim}
+use mathlib.Core.Logic.{⊎-elim, _↔_}
 use lib.Dec.{eqb}
 use borrow.Author.Tests.{eqb-true, eq-eqb}
 use Rattle.equilibrium.specs.Meaning.{_∈_}
 use Rattle.format.specs.Text.{any, sameList}
+use Rattle.format.specs.Tests.{isNo}
 
 pub or-false : (a b : Bool) → (a || b) ≡ false → (a ≡ false) × (b ≡ false)
 or-false true b e = absurd (true≢false e)
@@ -27,6 +28,16 @@ and-true false b e = absurd (false≢true e)
 pub not-false : (a : Bool) → not a ≡ false → a ≡ true
 not-false true e = refl
 not-false false e = absurd (true≢false e)
+
+-- a decision as a test
+
+pub no-iff : {X : Type 0} (d : Dec X) → (isNo d ≡ false) ↔ X
+no-iff (yes x) = (λ e. x, λ x. refl)
+no-iff (no n) = (λ e. absurd (true≢false e), λ x. absurd (n x))
+
+pub yes-iff : {X : Type 0} (d : Dec X) → (not (isNo d) ≡ false) ↔ (X → ⊥)
+yes-iff (yes x) = (λ e. absurd (true≢false e), λ n. absurd (n x))
+yes-iff (no n) = (λ e. n, λ k. refl)
 
 module _ {X : Type 0} (test : X → Bool) where
   pub any-false : (xs : List X) → any test xs ≡ false → (x : X) → x ∈ xs → test x ≡ false

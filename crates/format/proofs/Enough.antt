@@ -1,12 +1,14 @@
 -- What is enough for a line to pass its tests: the order of its kind and number, and what a formula and a row have to be.
 -- It is the other direction of Tested and of RowPasses.
 use Prim.Native.Nat.{ℕ, _≤_, _<_}
+use native.Mathlib.Decide.{decLt}
+use native.Mathlib.Omega.{arith}
 use mathlib.Core.Path.{_≡_, refl, sym, ap, _∙_}
 use mathlib.Core.Bool.{true, false}
 use mathlib.Core.List.{List, [], _∷_, Memᴰ·cast}
 use mathlib.Core.Option.{none}
 use lib.ListN.{length, getD}
-use borrow.Author.Tests.{eq-eqb, lt-leb, le-leb, lt-ltb, le-ltb}
+use borrow.Author.Tests.{eq-eqb, lt-leb, lt-ltb, le-ltb}
 use Rattle.equilibrium.specs.Meaning.{_∈_}
 use Rattle.format.specs.File.{Node, Row, Body, Stage}
 use Rattle.format.specs.Tables.{nodeRecord, mostFormulas, mostRows, mostEntries}
@@ -16,12 +18,21 @@ use Rattle.format.proofs.Booleans.{any-none, same-list}
 use Rattle.format.proofs.Tested.{PassedRow}
 use Rattle.format.proofs.RowPasses.{row-passes-exactly}
 
-pub follow-enough : (s t : Stage) → rank s ≤ rank t → rank s < 3 → mayFollow s t ≡ true
-follow-enough s t h l = rw (le-leb (rank s) (rank t) h, lt-ltb (rank s) 3 l)
+-- a later stage
+pub follow-later : (s t : Stage) → rank s < rank t → mayFollow s t ≡ true
+follow-later s t l = rw (lt-ltb (rank s) (rank t) l)
+
+-- a stage that goes on
+pub follow-on : (s t : Stage) → rank s ≤ rank t → rank t < 3 → mayFollow s t ≡ true
+follow-on s t h l = cases (decLt (rank s) (rank t))
+  where
+    cases : Dec (rank s < rank t) → mayFollow s t ≡ true
+    cases (yes k) = follow-later s t k
+    cases (no n) = rw (le-ltb (rank s) (rank t) (omega arith), eq-eqb (rank s) (rank t) (omega arith), lt-ltb (rank t) 3 l)
 
 -- a kind that may follow, with the next number
-pub order-enough : (s t : Stage) (held n : ℕ) → rank s ≤ rank t → rank s < 3 → n ≡ held → outOfOrder s t held n ≡ false
-order-enough s t held n h l e = rw (follow-enough s t h l, eq-eqb n held e)
+pub order-enough : (s t : Stage) (held n : ℕ) → rank s ≤ rank t → rank t < 3 → n ≡ held → outOfOrder s t held n ≡ false
+order-enough s t held n h l e = rw (follow-on s t h l, eq-eqb n held e)
 
 -- the node of a record
 abbrev nodeBack : List ℕ → Node

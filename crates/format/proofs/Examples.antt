@@ -1,13 +1,15 @@
--- Paper 01's examples of texts ("A whole file"), each with its answer, by one computed proof over the table.
+-- Paper 01's examples of texts ("A whole file"), and texts with an M line, each with its answer, by one computed proof over the table.
 use mathlib.Core.Path.{_≡_, refl}
 use mathlib.Core.List.{List, [], _∷_, _++_, map}
 use native.Mathlib.Decide.{ℕ-discrete}
+use Rattle.equilibrium.proofs.Models.{equilibrium?}
 use Rattle.elk.proofs.Decision.{instance?}
 use Rattle.format.specs.Text.{Bytes, bytes, partsAt, linesOf, fieldsOf, sameList, numberOf, listOf, principalOf, isName, strictlyRising}
-use Rattle.format.specs.Line.{ruleOf, nodeOf, atomFields, formulaFields, rowFields, claimFields, lineOf}
+use Rattle.format.specs.Line.{ruleOf, nodeOf, atomFields, formulaFields, rowFields, modelFields, claimFields, lineOf}
 use Rattle.format.specs.File.{formulas}
 use Rattle.format.specs.Tables.{Lent, tooShort}
 use Rattle.format.specs.Tests.{wrongPremises, wrongStep}
+use Rattle.format.specs.Model.{contradiction?}
 use Rattle.format.specs.Judged.{Ruling, accepted, turnedDown, judged, beginning, run, step, stepRead}
 
 pub record Example : Type 0 where
@@ -61,14 +63,26 @@ toSixtyThree =
     bytes "0,1,2,3,4,5,6,7,8,9,10,11,12,13,14,15,16,17,18,19,20,21,22,23,24,25,26,27,28,29,30,31,"
     ++ bytes "32,33,34,35,36,37,38,39,40,41,42,43,44,45,46,47,48,49,50,51,52,53,54,55,56,57,58,59,60,61,62,63"
 
+-- a derivation of ~# => ~#, whose one equilibrium model is empty
+abbrev truth : Bytes
+truth = bytes "F\t0\tbot\t-\t-\nF\t1\tnot\t0\t-\nN\t0\tsame\t1\t-\t1\t1\n"
+
+-- a derivation of #&# => #&#
+abbrev falsity : Bytes
+falsity = bytes "F\t0\tbot\t-\t-\nF\t1\tand\t0\t0\nN\t0\tsame\t1\t-\t1\t1\n"
+
+-- the last row of the whole file
+abbrev lastRow : Bytes
+lastRow = bytes "N\t4\timpl\t2\t2,3\t2\t3\n"
+
 abbrev pub examples : List Example
 examples =
     -- the whole file
-    (front ++ bytes "N\t4\timpl\t2\t2,3\t2\t3\nC\t2\t3\n" earns accepted 12)
+    (front ++ lastRow ++ bytes "C\t2\t3\n" earns accepted 12)
     -- with premises 3,2 in row 4
     ∷ (front ++ bytes "N\t4\timpl\t2\t3,2\t2\t3\nC\t2\t3\n" earns turnedDown 11 11)
     -- without the C line
-    ∷ (front ++ bytes "N\t4\timpl\t2\t2,3\t2\t3\n" earns turnedDown 13 12)
+    ∷ (front ++ lastRow earns turnedDown 13 12)
     -- empty text
     ∷ (bytes "" earns turnedDown 13 1)
     -- only the atom line and an empty claim
@@ -78,16 +92,38 @@ examples =
     -- 64 earns 5
     ∷ (sixtyFourAtoms ++ bytes "A\t64\ta64\n" earns turnedDown 5 65)
     -- 64 formulas on a side fit
-    ∷ (sixtyFiveFormulas ++ bytes "N\t0\tsame\t0\t-\t0\t" ++ toSixtyThree ++ bytes "\nC\t0\t" ++ toSixtyThree ++ bytes "\n" earns accepted 67)
+    ∷ (sixtyFiveFormulas ++ bytes "N\t0\tsame\t1\t-\t1\t" ++ toSixtyThree ++ bytes "\nM\t-\nC\t1\t" ++ toSixtyThree ++ bytes "\n" earns accepted 68)
     -- 65 earn 9
     ∷ (sixtyFiveFormulas ++ bytes "N\t0\tsame\t0\t-\t0\t" ++ toSixtyThree ++ bytes ",64\n" earns turnedDown 9 66)
     -- no LF after the claim
-    ∷ (front ++ bytes "N\t4\timpl\t2\t2,3\t2\t3\nC\t2\t3" earns turnedDown 3 12)
+    ∷ (front ++ lastRow ++ bytes "C\t2\t3" earns turnedDown 3 12)
     -- a line after the claim
-    ∷ (front ++ bytes "N\t4\timpl\t2\t2,3\t2\t3\nC\t2\t3\nC\t2\t3\n" earns turnedDown 4 13)
+    ∷ (front ++ lastRow ++ bytes "C\t2\t3\nC\t2\t3\n" earns turnedDown 4 13)
+    -- a model beside the claim
+    ∷ (truth ++ bytes "M\t-\nC\t1\t1\n" earns accepted 5)
+    -- none though one is wanted: 15, on the claim's line
+    ∷ (truth ++ bytes "C\t1\t1\n" earns turnedDown 15 4)
+    -- one though the claim reports a contradiction: 15, on the M line
+    ∷ (front ++ lastRow ++ bytes "M\t-\nC\t2\t3\n" earns turnedDown 15 12)
+    -- a claim that differs comes first
+    ∷ (truth ++ bytes "C\t1\t-\n" earns turnedDown 12 4)
+    -- #&# is not #: it wants a model
+    ∷ (falsity ++ bytes "C\t1\t1\n" earns turnedDown 15 4)
+    -- a model of 17 atoms earns 16, on its own line, and before a line after the claim is looked at
+    ∷ (sixtyFourAtoms ++ truth ++ bytes "M\t0,1,2,3,4,5,6,7,8,9,10,11,12,13,14,15,16\nC\t1\t1\nC\n" earns turnedDown 16 68)
+    -- one of 16 is tried: 17
+    ∷ (sixtyFourAtoms ++ truth ++ bytes "M\t0,1,2,3,4,5,6,7,8,9,10,11,12,13,14,15\nC\t1\t1\n" earns turnedDown 17 68)
+    -- an atom that is not there
+    ∷ (bytes "A\t0\tp\nM\t1\n" earns turnedDown 7 2)
+    -- atoms that do not rise
+    ∷ (bytes "A\t0\tp\nM\t0,0\n" earns turnedDown 9 2)
+    -- a second M line, and a row after it
+    ∷ (truth ++ bytes "M\t-\nM\t-\n" earns turnedDown 4 5)
+    ∷ (truth ++ bytes "M\t-\nN\t1\tsame\t1\t-\t1\t1\n" earns turnedDown 4 5)
     ∷ []
 
 pub examples-hold : map (λ e. judged full (e .text)) examples ≡ map (λ e. e .answer) examples
-unfolding judged beginning run step stepRead lineOf atomFields formulaFields rowFields claimFields ruleOf nodeOf
-    linesOf fieldsOf partsAt sameList numberOf listOf principalOf isName strictlyRising formulas tooShort wrongPremises wrongStep instance? ℕ-discrete
+unfolding judged beginning run step stepRead lineOf atomFields formulaFields rowFields modelFields claimFields ruleOf nodeOf
+    linesOf fieldsOf partsAt sameList numberOf listOf principalOf isName strictlyRising formulas tooShort wrongPremises wrongStep instance?
+    contradiction? equilibrium? ℕ-discrete
 examples-hold = refl

@@ -2,7 +2,7 @@
 -- number 10 alone is for rows whose principal formula or premises are not of the rule's kinds.
 use Prim.Native.Nat.{ℕ}
 use mathlib.Core.Path.{_≡_, refl, sym, ap, ap₂, subst}
-use mathlib.Core.Bool.{Bool, true, false, cond, not, _&&_, _||_, true≢false, false≢true}
+use mathlib.Core.Bool.{Bool, true, false, cond, not, _&&_, _||_, false≢true}
 use mathlib.Core.List.{List, [], _∷_, map}
 use mathlib.Core.Option.{Option, none, some, IsSome}
 use mathlib.Core.Logic.{_↔_}
@@ -13,9 +13,9 @@ use Rattle.elk.proofs.Decision.{instance?}
 use Rattle.elk.proofs.Faithful.{instance-shaped}
 use Rattle.format.specs.Text.{_<$>_}
 use Rattle.format.specs.File.{Row, Body, decodedAt, sequentOf}
-use Rattle.format.specs.Tests.{sameKind, sameKinds, present, sameTruth, premisesOf, wrongPremises, isNo, wrongStep, ruleTests}
+use Rattle.format.specs.Tests.{sameKind, sameKinds, present, sameTruth, premisesOf, wrongPremises, wrongStep, ruleTests}
 use Rattle.format.specs.Passing.{RowInstance, PassesExactly, RightPremises, TenExactly}
-use Rattle.format.proofs.Booleans.{or-false, and-true, not-false}
+use Rattle.format.proofs.Booleans.{or-false, and-true, not-false, no-iff}
 use Rattle.format.proofs.Tested.{passes}
 
 -- the comparisons of kinds and truths are exact
@@ -68,19 +68,11 @@ ten-exactly b r =
 
 pub instance-of : (b : Body) (r : Row) → wrongStep b r ≡ false → RowInstance b r
 unfolding wrongStep
-instance-of b r e = cases (instance? (r .rule) (decodedAt (b .nodes) <$> r .principal) (premisesOf b r) (sequentOf (b .nodes) r)) e
-  where
-    cases : {X : Type 0} (d : Dec X) → isNo d ≡ false → X
-    cases (yes x) k = x
-    cases (no n) k = absurd (true≢false k)
+instance-of b r = no-iff (instance? (r .rule) (decodedAt (b .nodes) <$> r .principal) (premisesOf b r) (sequentOf (b .nodes) r)) .0
 
 step-of : (b : Body) (r : Row) → RowInstance b r → wrongStep b r ≡ false
 unfolding wrongStep
-step-of b r i = cases (instance? (r .rule) (decodedAt (b .nodes) <$> r .principal) (premisesOf b r) (sequentOf (b .nodes) r)) i
-  where
-    cases : {X : Type 0} (d : Dec X) → X → isNo d ≡ false
-    cases (yes x) y = refl
-    cases (no n) y = absurd (n y)
+step-of b r = no-iff (instance? (r .rule) (decodedAt (b .nodes) <$> r .principal) (premisesOf b r) (sequentOf (b .nodes) r)) .1
 
 -- an instance has the principal formula and the premises that its rule asks for
 instance-right : (b : Body) (r : Row) → RowInstance b r → RightPremises b r

@@ -7,12 +7,15 @@ use mathlib.Core.List.{List, [], _∷_}
 use mathlib.Core.Option.{Option, none, some}
 use lib.Dec.{eqb}
 use lib.ListN.{length}
+use Rattle.equilibrium.specs.Formula.{Formula}
 use Rattle.format.specs.Text.{Bytes, onto, partsAt, lineFeed, linesOf, allButLast, Lines}
-use Rattle.format.specs.File.{Node, Row, File}
-use Rattle.format.specs.Line.{Line, atomLine, formulaLine, rowLine, claimLine, lineOf}
-use Rattle.format.specs.Tests.{Test, first, atomTests, formulaTests, rowTests, claimTests}
+use Rattle.format.specs.File.{Node, Row, File, atomsGiven}
+use Rattle.format.specs.Line.{Line, atomLine, formulaLine, rowLine, modelLine, claimLine, lineOf}
+use Rattle.format.specs.Tests.{Test, first, atomTests, formulaTests, rowTests, modelLineTests, claimTests}
+use Rattle.format.specs.Model.{modelTests, confirmationTests}
 use Rattle.format.specs.Judged.{Place, Outcome, next, refused, settled, orBadLine, stepRead, step, after, below}
-use Rattle.format.specs.Judged.{run, withAtom, withNode, withRow, withClaim, nameStart, Ruling, turnedDown, orNoClaim, finish, runFrom, answerFrom}
+use Rattle.format.specs.Judged.{withAtom, withNode, withRow, withModel, withClaim, reportedOn, nameStart}
+use Rattle.format.specs.Judged.{run, Ruling, turnedDown, orNoClaim, finish, runFrom, answerFrom}
 
 -- the first test that applies gives its number
 
@@ -34,25 +37,41 @@ module _ (f : File) (p : Place) (line : Bytes) where
 
   -- a line that is well written: by its tests
   pub step-atom : (n : ℕ) (name : Bytes) → lineOf line ≡ some (atomLine n name)
-      → step f p line ≡ settled (first (atomTests f n name)) p (withAtom f (nameStart p line) name)
+      → step f p line ≡ settled (first (atomTests f n name)) (p .line) (withAtom f (nameStart p line) name)
   unfolding stepRead
   step-atom n name e = step-well (atomLine n name) e
 
   pub step-formula : (n : ℕ) (node : Node) → lineOf line ≡ some (formulaLine n node)
-      → step f p line ≡ settled (first (formulaTests f n node)) p (withNode f node)
+      → step f p line ≡ settled (first (formulaTests f n node)) (p .line) (withNode f node)
   unfolding stepRead
   step-formula n node e = step-well (formulaLine n node) e
 
-  pub step-row : (n : ℕ) (r : Row) → lineOf line ≡ some (rowLine n r) → step f p line ≡ settled (first (rowTests f n r)) p (withRow f r)
+  pub step-row : (n : ℕ) (r : Row) → lineOf line ≡ some (rowLine n r) → step f p line ≡ settled (first (rowTests f n r)) (p .line) (withRow f r)
   unfolding stepRead
   step-row n r e = step-well (rowLine n r) e
 
-  pub step-claim : (l r : List ℕ) → lineOf line ≡ some (claimLine l r)
-      → step f p line ≡ settled (first (claimTests f l r)) p (withClaim f (record { line = p .line; left = l; right = r }))
+  pub step-model : (atoms : List ℕ) → lineOf line ≡ some (modelLine atoms)
+      → step f p line ≡ settled (first (modelLineTests f atoms)) (p .line) (withModel f (record { line = p .line; atoms = atoms }))
   unfolding stepRead
-  step-claim l r e = step-well (claimLine l r) e
+  step-model atoms e = step-well (modelLine atoms) e
 
--- a refusal has a number from 3 on and the line's own line
+  -- a claim: by its own tests, and then by those of its model, which belong to another line
+  module _ (l r : List ℕ) (e : lineOf line ≡ some (claimLine l r)) where
+    abbrev claiming : Outcome File → Outcome File
+    claiming o =
+        after o (λ g. settled (first (confirmationTests g l r)) (reportedOn (g .model) (p .line)) (withClaim g (record { line = p .line; left = l; right = r })))
+
+    pub step-claim-refused : (n : ℕ) → first (claimTests f l r) ≡ some n → step f p line ≡ refused n (p .line)
+    unfolding stepRead
+    step-claim-refused n k = step-well (claimLine l r) e ∙ ap (λ (o : Option ℕ). claiming (settled o (p .line) f)) k
+
+    pub step-claim : first (claimTests f l r) ≡ none
+        → step f p line
+        ≡ settled (first (confirmationTests f l r)) (reportedOn (f .model) (p .line)) (withClaim f (record { line = p .line; left = l; right = r }))
+    unfolding stepRead
+    step-claim k = step-well (claimLine l r) e ∙ ap (λ (o : Option ℕ). claiming (settled o (p .line) f)) k
+
+-- a refusal has a number from 3 on
 
 abbrev Numbered : List Test → Type 0
 Numbered [] = Unit {0}
@@ -66,23 +85,34 @@ numbered (t ∷ ts) n h e = cases (t .applies) e (numbered ts n (h .1))
     cases true k rest = let same : t .number ≡ n = cc in omega (arith, h .0)
     cases false k rest = rest k
 
-pub step-refused : (f : File) (p : Place) (line : Bytes) (n l : ℕ) → step f p line ≡ refused n l → (3 ≤ n) × (l ≡ p .line)
+model-numbered : (L R : List Formula) (m : Option (List ℕ)) → Numbered (modelTests L R m)
+model-numbered L R none = (omega arith, tt)
+model-numbered L R (some T) = (omega arith, (omega arith, (omega arith, tt)))
+
+pub step-refused : (f : File) (p : Place) (line : Bytes) (n l : ℕ) → step f p line ≡ refused n l → 3 ≤ n
 unfolding step stepRead
 step-refused f p line n l e = read (lineOf line) e
   where
-    settle : (ts : List Test) (t : File) → Numbered ts → settled (first ts) p t ≡ refused n l → (3 ≤ n) × (l ≡ p .line)
-    settle ts t h k = cases (first ts) refl k
+    settle : (ts : List Test) (at : ℕ) (t : File) → Numbered ts → settled (first ts) at t ≡ refused n l → 3 ≤ n
+    settle ts at t h k = cases (first ts) refl k
       where
-        cases : (o : Option ℕ) → first ts ≡ o → settled o p t ≡ refused n l → (3 ≤ n) × (l ≡ p .line)
+        cases : (o : Option ℕ) → first ts ≡ o → settled o at t ≡ refused n l → 3 ≤ n
         cases none q k = let z : _≡_ {A = ℕ} 0 1 = cc in absurd (omega arith)
-        cases (some m) q k = let same : m ≡ n = cc in (omega (arith, numbered ts m h q), cc)
+        cases (some m) q k = let same : m ≡ n = cc in omega (arith, numbered ts m h q)
 
-    read : (o : Option Line) → orBadLine o p (stepRead f p line) ≡ refused n l → (3 ≤ n) × (l ≡ p .line)
-    read none k = let same : 3 ≡ n = cc in (omega arith, cc)
-    read (some (atomLine m name)) k = settle (atomTests f m name) _ (omega arith) k
-    read (some (formulaLine m node)) k = settle (formulaTests f m node) _ (omega arith) k
-    read (some (rowLine m r)) k = settle (rowTests f m r) _ (omega arith) k
-    read (some (claimLine a b)) k = settle (claimTests f a b) _ (omega arith) k
+    claim : (a b : List ℕ) (o : Option ℕ) → first (claimTests f a b) ≡ o
+        → after (settled o (p .line) f) (λ g. settled (first (confirmationTests g a b)) (reportedOn (g .model) (p .line))
+        (withClaim g (record { line = p .line; left = a; right = b }))) ≡ refused n l → 3 ≤ n
+    claim a b none q k = settle (confirmationTests f a b) _ _ (model-numbered _ _ (atomsGiven (f .model))) k
+    claim a b (some m) q k = let same : m ≡ n = cc in omega (arith, numbered (claimTests f a b) m (omega arith) q)
+
+    read : (o : Option Line) → orBadLine o p (stepRead f p line) ≡ refused n l → 3 ≤ n
+    read none k = let same : 3 ≡ n = cc in omega arith
+    read (some (atomLine m name)) k = settle (atomTests f m name) _ _ (omega arith) k
+    read (some (formulaLine m node)) k = settle (formulaTests f m node) _ _ (omega arith) k
+    read (some (rowLine m r)) k = settle (rowTests f m r) _ _ (omega arith) k
+    read (some (modelLine atoms)) k = settle (modelLineTests f atoms) _ _ (omega arith) k
+    read (some (claimLine a b)) k = claim a b (first (claimTests f a b)) refl k
 
 -- the lines of what is left of a text
 

@@ -2,12 +2,13 @@
 use Prim.Native.Nat.{ℕ, _+_, _≤_, _<_}
 use native.Mathlib.Omega.{arith}
 use mathlib.Core.Path.{_≡_, refl}
-use mathlib.Core.Bool.{Bool, true, false, not, cond, _||_}
+use mathlib.Core.Bool.{Bool, true, false, not, cond, _&&_, _||_}
 use mathlib.Core.List.{List, [], _∷_}
 use mathlib.Core.Option.{none, some}
-use lib.Dec.{eqb, leb}
+use mathlib.Core.Logic.{_⊎_, inl, inr, ⊎-elim}
+use lib.Dec.{eqb, ltb, leb}
 use lib.ListN.{length}
-use borrow.Author.Tests.{leb-true, ltb-true, leb-false, ltb-false}
+use borrow.Author.Tests.{eqb-true, ltb-true, leb-false, ltb-false}
 use Rattle.format.specs.Text.{any}
 use Rattle.format.specs.File.{Row, Body, Stage}
 use Rattle.format.specs.Tables.{leftPool, rightPool, mostRows, mostEntries}
@@ -15,6 +16,7 @@ use Rattle.format.specs.Tests.{
   Test,
   first,
   rank,
+  goesOn,
   mayFollow,
   outOfOrder,
   notEarlier,
@@ -41,11 +43,20 @@ passes n (t ∷ ts) e = cases (t .applies) (eqb n (t .number)) e (passes n ts)
     cases false false k rest = rest k
 
 -- the stage that a line follows
-pub follows : (s t : Stage) → mayFollow s t ≡ true → (rank s ≤ rank t) × (rank s < 3)
-follows s t e = let parts = and-true (leb (rank s) (rank t)) _ e in (leb-true _ _ (parts .0), ltb-true _ _ (parts .1))
+pub follows : (s t : Stage) → mayFollow s t ≡ true → (rank s < rank t) ⊎ ((rank s ≡ rank t) × (rank t < 3))
+follows s t e = cases (ltb (rank s) (rank t)) refl e
+  where
+    cases : (b : Bool) → ltb (rank s) (rank t) ≡ b → b || (eqb (rank s) (rank t) && goesOn t) ≡ true → (rank s < rank t) ⊎ ((rank s ≡ rank t) × (rank t < 3))
+    cases true l k = inl (ltb-true _ _ l)
+    cases false l k = let parts = and-true (eqb (rank s) (rank t)) (goesOn t) k in inr (eqb-true _ _ (parts .0), ltb-true _ _ (parts .1))
 
-pub in-order : (s t : Stage) (held n : ℕ) → outOfOrder s t held n ≡ false → (rank s ≤ rank t) × (rank s < 3)
-in-order s t held n e = follows s t (not-false _ (or-false (not (mayFollow s t)) _ e .0))
+-- M and C come once
+pub follows-once : (s t : Stage) → 3 ≤ rank t → mayFollow s t ≡ true → rank s < rank t
+follows-once s t h e = ⊎-elim (λ l. l) (λ p. absurd (omega (arith, p .1))) (follows s t e)
+
+-- a numbered line begins a stage or goes on with it
+pub in-order : (s t : Stage) (held n : ℕ) → outOfOrder s t held n ≡ false → rank s ≤ rank t
+in-order s t held n e = ⊎-elim (λ l. omega (arith, l)) (λ p. omega (arith, p .0)) (follows s t (not-false _ (or-false (not (mayFollow s t)) _ e .0)))
 
 -- a row that passes the tests over a body
 pub record PassedRow (b : Body) (r : Row) : Type 0 where

@@ -13,12 +13,14 @@ use lib.Seq.{getD-at}
 use borrow.Author.Tests.{le-ltb, lt-ltb, leb-true}
 use Rattle.equilibrium.specs.Formula.{Formula, atomsIn}
 use Rattle.equilibrium.specs.Meaning.{_∈_, _⊆_, _≈_, Entails}
-use Rattle.equilibrium.proofs.Sets.{dec-in}
+use Rattle.equilibrium.proofs.Sets.{≈-sym, dec-in}
+use Rattle.equilibrium.proofs.Models.{only-occurring}
 use Rattle.elk.specs.Sequent.{elk, Sequent, _⇒_, Same, AllSame}
 use Rattle.elk.specs.Rules.{Rule, entry, kindOf}
 use Rattle.elk.specs.Instance.{Instance}
 use Rattle.elk.specs.Derivation.{Derivation, start, row, EndsIn}
 use Rattle.elk.proofs.Steps.{same-trans}
+use Rattle.elk.proofs.Entries.{atoms-part}
 use Rattle.elk.proofs.Completeness.{complete}
 use Rattle.elk.proofs.Faithful.{instance-shaped}
 use Rattle.elk.proofs.Equality.{formula-discrete}
@@ -26,12 +28,15 @@ use Rattle.format.specs.Text.{Bytes, _<$>_, any, strictlyRising}
 use Rattle.format.specs.File.{Node, Row, Body, decodedAt, decoded, sequentOf}
 use Rattle.format.specs.Tables.{leftPool, rightPool, mostAtoms, mostRows, mostEntries, mostOnSide, mostBytes}
 use Rattle.format.specs.Tests.{first, notEarlier, listed, badSide, lastIs, premisesOf, bodyTests}
-use Rattle.format.specs.Good.{GoodBody, GoodNames}
+use Rattle.format.specs.Model.{Confirmed, by-model}
+use Rattle.format.specs.Good.{GoodBody, GoodNames, GoodModel}
 use Rattle.format.specs.Passing.{RowInstance}
 use Rattle.format.specs.Document.{Document, written, namesIn, bodyOf, GoodDocument}
-use Rattle.format.specs.Transcript.{plainNames, countTo, principals, formulasIn, IsStep, AreSteps, Within, SidesRise, Transcript, documentOf, TextFor}
+use Rattle.format.specs.Transcript.{plainNames, countTo, principals, formulasIn, IsStep, AreSteps, Within, SidesRise}
+use Rattle.format.specs.Transcript.{Transcript, documentOf, ModelRises, TextFor}
 use Rattle.format.proofs.Booleans.{any-none, list-same}
 use Rattle.format.proofs.Tested.{PassedRow}
+use Rattle.format.proofs.Confirmation.{confirmed-same}
 use Rattle.format.proofs.GoodBodies.{at-end, joined-snoc}
 use Rattle.format.proofs.Enough.{row-enough}
 use Rattle.format.proofs.WrittenDocuments.{written-accepted, written-contents}
@@ -346,6 +351,29 @@ last-is rows before q split e = rw split (ends before)
     ends (r ∷ []) = ends []
     ends (r ∷ p ∷ ps) = ends (p ∷ ps)
 
+-- the left side of a derivation's last row is among the formulas that it names
+left-named : {s : Sequent} {ss : List Sequent} (d : Derivation (s ∷ ss)) → s .left ⊆ formulasIn d
+left-named (row d r F premises {s = s} inside i) A m = Memᴰ·append-right (principals F) (Memᴰ·append-left _ m)
+
+-- a model that confirms the claim of a derivation over so many atoms can stand on an M line
+model-good : {L R : List Formula} (atoms : ℕ) (e : EndsIn L R) → ((p : ℕ) → p ∈ atomsIn (formulasIn (e .derivation)) → p < atoms)
+    → (m : Option (List ℕ)) → ModelRises m → Confirmed L R m → (given : List ℕ) → m ≡ some given → GoodModel atoms given
+model-good atoms e below none rises c given k = let z : _≡_ {A = ℕ} 0 1 = cc in absurd (omega arith)
+model-good {L} {R} atoms e below (some T) rises c given k = subst (GoodModel atoms) same (good c)
+  where
+    same : T ≡ given
+    same = cc
+
+    occurs : atomsIn L ⊆ atomsIn (formulasIn (e .derivation))
+    occurs = atoms-part (λ A m. left-named (e .derivation) A (e .ends .left .1 A m))
+
+    good : Confirmed L R (some T) → GoodModel atoms T
+    good (by-model wanted few q) =
+        record {
+          known = none-later atoms T (λ p m. below p (occurs p (only-occurring q p m)));
+          side = rw (rises, le-ltb mostOnSide (length T) (omega arith));
+        }
+
 -- where the names are good as far as there may be so many
 named-text : (names : List Bytes) → (length names ≤ mostAtoms → GoodNames (length names) (namesIn names)) → {L R : List Formula} (e : EndsIn L R)
     → ((p : ℕ) → p ∈ atomsIn (formulasIn (e .derivation)) → p < length names) → TextFor names e
@@ -356,7 +384,9 @@ named-text names good {L} {R} e below =
       right = last .1 .right;
       claims-left = last .3 .left;
       claims-right = last .3 .right;
-      accepted-if = λ w short l long. (written-accepted document (document-good w short) l long, written-contents document (document-good w short) l long);
+      accepted-if = λ m rises c w short l long.
+          let good = document-good m rises c w short in
+          (written-accepted (document m) good l long, written-contents (document m) good l long);
     }
   where
     t : Transcript (length names) (e .derivation)
@@ -365,15 +395,18 @@ named-text names good {L} {R} e below =
     last : (before : List Row) × (q : Row) × (t .rows ≡ before ++ q ∷ []) × Same (sequentOf (t .nodes) q) (L ⇒ R)
     last = transcript-ends e t
 
-    document : Document
-    document = documentOf names t (last .1 .left) (last .1 .right)
+    document : Option (List ℕ) → Document
+    document m = documentOf names t m (last .1 .left) (last .1 .right)
 
-    document-good : Within (bodyOf document) → length (written document) ≤ mostBytes → GoodDocument document
-    document-good w short =
+    document-good : (m : Option (List ℕ)) → ModelRises m → Confirmed L R m → Within (bodyOf (document m))
+        → length (written (document m)) ≤ mostBytes → GoodDocument (document m)
+    document-good m rises c w short =
         record {
           names = good (w .atoms);
           body = t .good w;
+          model = model-good (length names) e below m rises c;
           claim = last-is (t .rows) (last .0) (last .1) (last .2) (last .3 .kind);
+          confirmed = confirmed-same (≈-sym (last .3 .left)) (≈-sym (last .3 .right)) c;
           short = short;
         }
 

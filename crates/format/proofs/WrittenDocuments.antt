@@ -1,32 +1,35 @@
 -- Every good document is accepted as written, with its claim's line, and the tables then hold its file.
-use Prim.Native.Nat.{ℕ, _+_, _≤_}
+use Prim.Native.Nat.{ℕ, _+_, _-_, _≤_}
 use mathlib.Core.Path.{_≡_, refl, sym, ap, ap₂, subst, _∙_}
 use mathlib.Core.Bool.{true, false}
 use mathlib.Core.List.{List, [], _∷_, _++_, map, map-append, append-nil, append-assoc, List·Memᴰ·head, List·Memᴰ·tail, Memᴰ·append-right, Memᴰ·map, Memᴰ·cast}
-use mathlib.Core.Option.{none}
+use mathlib.Core.Option.{Option, none, some}
 use native.Mathlib.Omega.{arith}
 use lib.ListN.{length, getD, length-append, length-map}
 use borrow.Author.Tests.{lt-leb, le-ltb, leb-false}
 use Rattle.equilibrium.specs.Meaning.{_∈_}
-use Rattle.format.specs.Text.{Bytes, any, isName, sameList, linesOf, Lines}
-use Rattle.format.specs.File.{Node, Row, Name, Claim, Body, Stage, in-atoms, in-formulas, in-rows, claimed, File, noFile, addNode, addRow}
-use Rattle.format.specs.Line.{Line, atomLine, formulaLine, rowLine, claimLine}
+use Rattle.format.specs.Text.{Bytes, _<$>_, any, isName, sameList, linesOf, Lines}
+use Rattle.format.specs.File.{Node, Row, Name, Model, Claim, Body, Stage, in-atoms, in-formulas, in-rows, modelled, claimed}
+use Rattle.format.specs.File.{File, noFile, atomsGiven, addNode, addRow, decoded}
+use Rattle.format.specs.Line.{Line, atomLine, formulaLine, rowLine, modelLine, claimLine}
 use Rattle.format.specs.Tables.{Lent, tooShort, encode, mostAtoms, mostFormulas, mostRows, mostBytes}
 use Rattle.format.specs.Tests.{_when_, first, rank, outOfOrder, notEarlier, unknownFormula, listed, refersAhead, badSide, lastIs}
-use Rattle.format.specs.Tests.{atomTests, nodeTests, formulaTests, bodyTests, rowTests, claimTests}
+use Rattle.format.specs.Tests.{atomTests, nodeTests, formulaTests, bodyTests, rowTests, modelLineTests, claimTests}
+use Rattle.format.specs.Model.{Confirmed}
 use Rattle.format.specs.Judged.{Place, Outcome, next, settled, step, after, below, run}
 use Rattle.format.specs.Judged.{top, beginning, accepted, finish, answerFrom, judged, contents, heldBy}
-use Rattle.format.specs.Judged.{withAtom, withNode, withRow, withClaim, nameStart}
-use Rattle.format.specs.Good.{bare, GoodBody, atoms, formula, row, spellings, GoodNames}
+use Rattle.format.specs.Judged.{withAtom, withNode, withRow, withModel, withClaim, reportedOn, nameStart}
+use Rattle.format.specs.Good.{bare, GoodBody, atoms, formula, row, spellings, GoodNames, GoodModel}
 use Rattle.format.specs.Written.{Each, decimal, Small, nodeNumbers, Writable, bytesOf}
-use Rattle.format.specs.Document.{Document, numbered, atomLines, formulaLines, rowLines, linesIn, written}
-use Rattle.format.specs.Document.{namesFrom, namesIn, bodyOf, fileOf, GoodDocument}
+use Rattle.format.specs.Document.{Document, numbered, atomLines, formulaLines, rowLines, modelLines, linesIn, written}
+use Rattle.format.specs.Document.{namesFrom, namesIn, bodyOf, modelOn, fileOf, GoodDocument}
 use Rattle.format.proofs.Booleans.{or-false, same-list, any-none}
 use Rattle.format.proofs.Fold.{placeAfter, run-append}
-use Rattle.format.proofs.Stepping.{first-passes, step-atom, step-formula, step-row, step-claim}
+use Rattle.format.proofs.Stepping.{first-passes, step-atom, step-formula, step-row, step-model, step-claim}
 use Rattle.format.proofs.Tested.{passes, PassedRow, passed-row}
 use Rattle.format.proofs.GoodBodies.{Distinct, distinct-apart, Held, good-held}
-use Rattle.format.proofs.Enough.{follow-enough, order-enough}
+use Rattle.format.proofs.Enough.{follow-later, order-enough}
+use Rattle.format.proofs.Confirmation.{model-passes-iff}
 use Rattle.format.proofs.Accepted.{last-row}
 use Rattle.format.proofs.Joined.{each-append}
 use Rattle.format.proofs.WrittenLines.{fields-back, line-back, lines-back}
@@ -73,8 +76,8 @@ past-line p [] = omega arith
 past-line p (l ∷ ls) = past-line (below p (bytesOf l)) ls ∙ omega arith
 
 -- a file before its claim
-abbrev unclaimed : List Name → Stage → Body → File
-unclaimed names s b = record { names = names; body = b; stage = s; claim = none }
+abbrev unclaimed : List Name → Stage → Option Model → Body → File
+unclaimed names s m b = record { names = names; body = b; stage = s; model = m; claim = none }
 
 -- ---- A lines
 
@@ -97,7 +100,7 @@ names-good names form apart =
 
 -- the file after some A lines
 abbrev atomFile : ℕ → List Name → File
-atomFile k names = unclaimed names in-atoms (bare k)
+atomFile k names = unclaimed names in-atoms none (bare k)
 
 new-name : (name : Bytes) (before : List Name) → (name ∈ spellings before → ⊥) → any (λ m. sameList (m .name) name) before ≡ false
 new-name name before new =
@@ -133,7 +136,7 @@ names-lead (name ∷ names) p k total before e l form apart =
     stepped : step (atomFile k before) p (bytesOf (atomLine k name)) ≡ next (atomFile (k + 1) (before ++ own ∷ []))
     stepped =
         step-atom (atomFile k before) p _ k name (line-back (atomLine k name) writable)
-        ∙ ap₂ (λ o (s : ℕ). settled o p (withAtom (atomFile k before) s name)) passing start-is
+        ∙ ap₂ (λ o (s : ℕ). settled o (p .line) (withAtom (atomFile k before) s name)) passing start-is
 
     rest : Distinct [] (spellings (before ++ own ∷ []) ++ names)
     rest =
@@ -170,7 +173,7 @@ row-writable b r l ok =
 
 -- a body with names for its atoms, before there is a claim
 abbrev claimless : List Bytes → Body → Document
-claimless names b = record { names = names; nodes = b .nodes; rows = b .rows; left = []; right = [] }
+claimless names b = record { names = names; nodes = b .nodes; rows = b .rows; model = none; left = []; right = [] }
 
 -- its lines
 abbrev linesBefore : List Bytes → Body → List Line
@@ -201,7 +204,7 @@ lines-node names b node none-yet =
     d = claimless names b
 
     no-rows : rowLines d ≡ []
-    no-rows = ap (λ (rs : List Row). rowLines (record { names = names; nodes = b .nodes; rows = rs; left = []; right = [] })) none-yet
+    no-rows = ap (λ (rs : List Row). rowLines (claimless names (record { atoms = b .atoms; nodes = b .nodes; rows = rs }))) none-yet
 
     before-none : (ls ms ns : List Line) (l : Line) → ns ≡ [] → (ls ++ (ms ++ ns)) ++ l ∷ [] ≡ ls ++ ((ms ++ l ∷ []) ++ ns)
     before-none ls ms ns l e = rw e (simp (append-nil, append-assoc))
@@ -212,15 +215,15 @@ lines-row names b r = rw (row-line names b r) (simp append-assoc)
 -- the lines of a body lead to it
 record LeadsTo (names : List Bytes) (b : Body) : Type 0 where
   stage : Stage
-  no-claim : rank stage ≤ 2
+  no-model : rank stage ≤ 2
   no-rows : b .rows ≡ [] → rank stage ≤ 1
-  leads : Leads top (linesBefore names b) noFile (unclaimed (namesIn names) stage b)
+  leads : Leads top (linesBefore names b) noFile (unclaimed (namesIn names) stage none b)
 
 body-leads : (names : List Bytes) {b : Body} → GoodBody b → GoodNames (b .atoms) (namesIn names) → LeadsTo names b
 body-leads names (atoms n h) good =
     record {
       stage = in-atoms;
-      no-claim = omega arith;
+      no-model = omega arith;
       no-rows = λ e. omega arith;
       leads = subst (λ (ls : List Line). Leads top ls noFile (atomFile n (namesIn names))) (sym (append-nil (numbered atomLine 0 names))) only-names;
     }
@@ -251,7 +254,7 @@ body-leads names (formula {b} g none-yet node ok) good = add (body-leads names g
     add before =
         record {
           stage = in-formulas;
-          no-claim = omega arith;
+          no-model = omega arith;
           no-rows = λ e. omega arith;
           leads = subst (λ (ls : List Line). Leads top ls noFile (withNode now node)) (lines-node names b node none-yet) more;
         }
@@ -260,7 +263,7 @@ body-leads names (formula {b} g none-yet node ok) good = add (body-leads names g
         line = formulaLine (length (b .nodes)) node
 
         now : File
-        now = unclaimed (namesIn names) (before .stage) b
+        now = unclaimed (namesIn names) (before .stage) none b
 
         passing : first (formulaTests now (length (b .nodes)) node) ≡ none
         passing =
@@ -271,7 +274,7 @@ body-leads names (formula {b} g none-yet node ok) good = add (body-leads names g
         stepped : step now (past top (linesBefore names b)) (bytesOf line) ≡ next (withNode now node)
         stepped =
             step-formula now _ _ (length (b .nodes)) node (line-back line writable)
-            ∙ ap (λ o. settled o (past top (linesBefore names b)) (withNode now node)) passing
+            ∙ ap (λ o. settled o (past top (linesBefore names b) .line) (withNode now node)) passing
 
         more : Leads top (linesBefore names b ++ line ∷ []) noFile (withNode now node)
         more = leads-snoc line (before .leads) writable stepped
@@ -284,7 +287,7 @@ body-leads names (row {b} g r ok) good = add (body-leads names g good)
     add before =
         record {
           stage = in-rows;
-          no-claim = omega arith;
+          no-model = omega arith;
           no-rows = λ e. absurd (omega (arith, length-append (b .rows) (r ∷ []), ap length e));
           leads = subst (λ (ls : List Line). Leads top ls noFile (withRow now r)) (lines-row names b r) more;
         }
@@ -293,25 +296,50 @@ body-leads names (row {b} g r ok) good = add (body-leads names g good)
         line = rowLine (length (b .rows)) r
 
         now : File
-        now = unclaimed (namesIn names) (before .stage) b
+        now = unclaimed (namesIn names) (before .stage) none b
 
         passing : first (rowTests now (length (b .rows)) r) ≡ none
         passing =
-            let h = before .no-claim in
+            let h = before .no-model in
             let order = order-enough (before .stage) in-rows (length (b .rows)) (length (b .rows)) h (omega arith) refl in
             first-passes (4 when outOfOrder (before .stage) in-rows (length (b .rows)) (length (b .rows))) (bodyTests b r) order ∙ ok
 
         stepped : step now (past top (linesBefore names b)) (bytesOf line) ≡ next (withRow now r)
         stepped =
             step-row now _ _ (length (b .rows)) r (line-back line writable)
-            ∙ ap (λ o. settled o (past top (linesBefore names b)) (withRow now r)) passing
+            ∙ ap (λ o. settled o (past top (linesBefore names b) .line) (withRow now r)) passing
 
         more : Leads top (linesBefore names b ++ line ∷ []) noFile (withRow now r)
         more = leads-snoc line (before .leads) writable stepped
 
+-- ---- the M line
+
+module _ (names : List Name) (b : Body) (held : Held b) (s : Stage) (h : rank s ≤ 2) (p : Place) where
+  -- atoms that are there, in rising order, pass
+  model-leads : (given : List ℕ) → GoodModel (b .atoms) given
+      → Leads p (modelLine given ∷ []) (unclaimed names s none b) (unclaimed names modelled (some (modelOn (p .line) given)) b)
+  model-leads given good = leads-cons writable stepped (leads-nil refl)
+    where
+      writable : Writable (modelLine given)
+      writable = small-numbers (b .atoms) (omega (arith, held .few-atoms)) given (good .known)
+
+      passing : first (modelLineTests (unclaimed names s none b) given) ≡ none
+      passing = rw (follow-later s modelled (omega arith), good .known, good .side)
+
+      stepped : step (unclaimed names s none b) p (bytesOf (modelLine given)) ≡ next (unclaimed names modelled (some (modelOn (p .line) given)) b)
+      stepped =
+          step-model (unclaimed names s none b) p _ given (line-back (modelLine given) writable)
+          ∙ ap (λ o. settled o (p .line) (withModel (unclaimed names s none b) (modelOn (p .line) given))) passing
+
+  -- the M line, if there is one, leads to a file with that model, which still lacks its claim
+  models-lead : (m : Option (List ℕ)) → ((given : List ℕ) → m ≡ some given → GoodModel (b .atoms) given)
+      → (t : Stage) × (rank t ≤ 3) × Leads p (modelLines m) (unclaimed names s none b) (unclaimed names t (modelOn (p .line) <$> m) b)
+  models-lead none good = (s, omega arith, leads-nil refl)
+  models-lead (some given) good = (modelled, omega arith, model-leads given (good given refl))
+
 -- ---- the C line
 
--- the sides of the last row are known and rise, so a claim of them passes
+-- the sides of the last row are known and rise, so a claim of them that is confirmed passes
 module _ (names : List Name) (b : Body) (held : Held b) (left right : List ℕ) (last : lastIs (b .rows) left right ≡ true) where
   claim-sides : (unknownFormula b left ≡ false) × (unknownFormula b right ≡ false) × (badSide left ≡ false) × (badSide right ≡ false)
   claim-sides =
@@ -322,10 +350,13 @@ module _ (names : List Name) (b : Body) (held : Held b) (left right : List ℕ) 
       let r = at .right-side in
       (rw l at (h .left-known), rw r at (h .right-known), rw l at (h .left-good), rw r at (h .right-good))
 
-  claim-leads : (s : Stage) → rank s ≤ 2 → (p : Place)
-      → Leads p (claimLine left right ∷ []) (unclaimed names s b) (withClaim (unclaimed names s b) (record { line = p .line; left = left; right = right }))
-  claim-leads s h p = leads-cons writable stepped (leads-nil refl)
+  claim-leads : (s : Stage) → rank s ≤ 3 → (m : Option Model) → Confirmed (decoded (b .nodes) left) (decoded (b .nodes) right) (atomsGiven m) → (p : Place)
+      → Leads p (claimLine left right ∷ []) (unclaimed names s m b) (withClaim (unclaimed names s m b) (record { line = p .line; left = left; right = right }))
+  claim-leads s h m confirmed p = leads-cons writable stepped (leads-nil refl)
     where
+      now : File
+      now = unclaimed names s m b
+
       small-side : (is : List ℕ) → unknownFormula b is ≡ false → Each Small is
       small-side is e = small-numbers (length (b .nodes)) (omega (arith, held .few-nodes)) is e
 
@@ -335,15 +366,13 @@ module _ (names : List Name) (b : Body) (held : Held b) (left right : List ℕ) 
       claim : Claim
       claim = record { line = p .line; left = left; right = right }
 
-      passing : first (claimTests (unclaimed names s b) left right) ≡ none
-      passing =
-          let sides = claim-sides in
-          rw (follow-enough s claimed (omega arith) (omega arith), sides .0, sides .1, sides .2, sides .3, last)
+      passing : first (claimTests now left right) ≡ none
+      passing = let sides = claim-sides in rw (follow-later s claimed (omega arith), sides .0, sides .1, sides .2, sides .3, last)
 
-      stepped : step (unclaimed names s b) p (bytesOf (claimLine left right)) ≡ next (withClaim (unclaimed names s b) claim)
+      stepped : step now p (bytesOf (claimLine left right)) ≡ next (withClaim now claim)
       stepped =
-          step-claim _ p _ left right (line-back (claimLine left right) writable)
-          ∙ ap (λ o. settled o p (withClaim (unclaimed names s b) claim)) passing
+          step-claim now p _ left right (line-back (claimLine left right) writable) passing
+          ∙ ap (λ o. settled o (reportedOn m (p .line)) (withClaim now claim)) (model-passes-iff _ _ (atomsGiven m) .1 confirmed)
 
 -- ---- the whole
 
@@ -354,24 +383,50 @@ module _ (d : Document) (good : GoodDocument d) where
   abbrev claims : Line
   claims = claimLine (d .left) (d .right)
 
-  all-lines : before ++ claims ∷ [] ≡ linesIn d
+  -- where the M line stands, if there is one, and where the claim stands
+  abbrev model-place : Place
+  model-place = past top before
+
+  abbrev claim-place : Place
+  claim-place = past model-place (modelLines (d .model))
+
+  all-lines : before ++ (modelLines (d .model) ++ claims ∷ []) ≡ linesIn d
   all-lines = rw (append-assoc, append-assoc)
 
   -- the claim stands on the last line
-  claim-line : past top before .line ≡ length (linesIn d)
-  claim-line = past-line top before ∙ omega (arith, length-append before (claims ∷ []), ap length all-lines)
+  claim-line : claim-place .line ≡ length (linesIn d)
+  claim-line =
+      let ms = modelLines (d .model) in
+      past-line model-place ms ∙ omega (arith, past-line top before, ap length all-lines, length-append before (ms ++ claims ∷ []), length-append ms (claims ∷ []))
+
+  -- and the M line on the one before
+  model-line : modelOn (model-place .line) <$> d .model ≡ modelOn (length (linesIn d) - 1) <$> d .model
+  model-line = by (d .model) (claim-line ∙ refl)
+    where
+      by : (m : Option (List ℕ)) → past model-place (modelLines m) .line ≡ length (linesIn d)
+          → modelOn (model-place .line) <$> m ≡ modelOn (length (linesIn d) - 1) <$> m
+      by none e = refl
+      by (some given) e = let same : model-place .line ≡ length (linesIn d) - 1 = omega arith in ap (λ n. some (modelOn n given)) same
 
   to-body : LeadsTo (d .names) (bodyOf d)
   to-body = body-leads (d .names) (good .body) (good .names)
 
   document-leads : Leads top (linesIn d) noFile (fileOf d)
   document-leads =
-      let now = unclaimed (namesIn (d .names)) (to-body .stage) (bodyOf d) in
-      let file : ℕ → File = λ n. withClaim now (record { line = n; left = d .left; right = d .right }) in
+      let names = namesIn (d .names) in
       let held = good-held (good .body) in
-      let leads = claim-leads (namesIn (d .names)) (bodyOf d) held (d .left) (d .right) (good .claim) in
-      let claim = leads (to-body .stage) (to-body .no-claim) (past top before) in
-      subst (λ (ls : List Line). Leads top ls noFile (fileOf d)) all-lines (leads-append (to-body .leads) (subst (Leads _ _ _) (ap file claim-line) claim))
+      let model = models-lead names (bodyOf d) held (to-body .stage) (to-body .no-model) model-place (d .model) (good .model) in
+      let given : Option Model = modelOn (model-place .line) <$> d .model in
+      let confirmed = subst (Confirmed _ _) (same-atoms (d .model)) (good .confirmed) in
+      let claim = claim-leads names (bodyOf d) held (d .left) (d .right) (good .claim) (model .0) (model .1) given confirmed claim-place in
+      let file : ℕ → Option Model → File =
+      λ n m. withClaim (unclaimed names (model .0) m (bodyOf d)) (record { line = n; left = d .left; right = d .right }) in
+      let last = subst (Leads _ _ _) (ap₂ file claim-line model-line) claim in
+      subst (λ (ls : List Line). Leads top ls noFile (fileOf d)) all-lines (leads-append (to-body .leads) (leads-append (model .2) last))
+    where
+      same-atoms : (m : Option (List ℕ)) → m ≡ atomsGiven (modelOn (model-place .line) <$> m)
+      same-atoms none = refl
+      same-atoms (some given) = refl
 
   lines : linesOf (written d) ≡ record { complete = map bytesOf (linesIn d); rest = [] }
   lines = lines-back (linesIn d) (document-leads .writable)

@@ -1,8 +1,9 @@
 -- Paper 01's whole file ("A whole file") as a document: it is a good one, and its text is the one that 01 shows.
+use Prim.Native.Nat.{ℕ}
 use mathlib.Core.Path.{_≡_, refl, ap}
 use mathlib.Core.Bool.{true}
 use mathlib.Core.List.{[], _∷_, List·Memᴰ·eq-of-singleton}
-use mathlib.Core.Option.{some}
+use mathlib.Core.Option.{none, some}
 use native.Mathlib.Decide.{ℕ-discrete}
 use native.Mathlib.Omega.{arith}
 use lib.Dec.{lit≤}
@@ -12,6 +13,7 @@ use Rattle.format.specs.Text.{Bytes, bytes, sameList, isName, strictlyRi
 use Rattle.format.specs.File.{Node, formulas}
 use Rattle.format.specs.Line.{makeRow}
 use Rattle.format.specs.Tests.{wrongPremises, wrongStep}
+use Rattle.format.specs.Model.{contradiction}
 use Rattle.format.specs.Good.{GoodBody, atoms, formula, row}
 use Rattle.format.specs.Written.{parted, ended, digits, decimal, listBytes, principalBytes, bytesOf}
 use Rattle.format.specs.Document.{Document, written, bodyOf, GoodDocument}
@@ -29,6 +31,7 @@ whole =
           ∷ makeRow def (some 1) [] [] (1 ∷ 3 ∷ [])
           ∷ makeRow impl (some 2) (2 ∷ 3 ∷ []) (2 ∷ []) (3 ∷ [])
           ∷ [];
+      model = none;
       left = 2 ∷ [];
       right = 3 ∷ [];
     }
@@ -58,7 +61,9 @@ whole-good =
     record {
       names = names-good (bytes "p" ∷ []) (λ name m. is-name (List·Memᴰ·eq-of-singleton m)) (λ i j h k e. omega arith);
       body = rows;
+      model = λ given e. let z : _≡_ {A = ℕ} 0 1 = cc in absurd (omega arith);
       claim = refl;
+      confirmed = contradiction (λ A m. List·Memᴰ·eq-of-singleton m);
       short = lit≤ tt;
     }
   where

@@ -13,8 +13,8 @@ use Rattle.elk.specs.Rules.{xini, xnnl, xnnr, xandl, xandr1, xandr2, xorr, xorl
 use Rattle.elk.specs.Rules.{ximpl1, ximpl2, ximpl3, ximpr1, ximpr2, xnimpl, xnimpr1, xnimpr2, xnandl1, xnandl2, xnandr, xnorl, xnorr1, xnorr2}
 use Rattle.format.specs.Text.{Bytes, bytes, tab, lineFeed, comma, all, isDigit, isLetter, startsWithLetter, isName, sameList, fieldsOf, linesOf}
 use Rattle.format.specs.File.{Node, Row}
-use Rattle.format.specs.Line.{Line, atomLine, formulaLine, rowLine, claimLine, lineOf}
-use Rattle.format.specs.Line.{ruleOf, nodeOf, atomFields, formulaFields, rowFields, claimFields, ofKind}
+use Rattle.format.specs.Line.{Line, atomLine, formulaLine, rowLine, modelLine, claimLine, lineOf}
+use Rattle.format.specs.Line.{ruleOf, nodeOf, atomFields, formulaFields, rowFields, modelFields, claimFields, ofKind}
 use Rattle.format.specs.Written.{Each, parted, decimal, Small, listBytes, principalBytes, nodeBytes, rowBytes, fieldBytes, bytesOf, textOf}
 use Rattle.format.specs.Written.{nodeNumbers, Writable}
 use Rattle.format.proofs.Booleans.{and-true}
@@ -134,6 +134,7 @@ fields-visible : (l : Line) → Writable l → Each Visible (fieldBytes l)
 fields-visible (atomLine n name) w = ((refl, tt), (decimal-visible n, (name-visible name (w .1), tt)))
 fields-visible (formulaLine n node) w = ((refl, tt), (decimal-visible n, node-visible node))
 fields-visible (rowLine n r) w = ((refl, tt), (decimal-visible n, row-visible r))
+fields-visible (modelLine atoms) w = ((refl, tt), (list-visible atoms, tt))
 fields-visible (claimLine left right) w = ((refl, tt), (list-visible left, (list-visible right, tt)))
 
 fields-without : (s : ℕ) → s ≤ 32 → (l : Line) → Writable l → Each (Without s) (fieldBytes l)
@@ -159,10 +160,11 @@ row-fields-back n r w =
     rw (number-back n (w .0), rule-word (r .rule) .0, principal, premises, list-back (r .left) (w .3), list-back (r .right) (w .4))
 
 kind-back : (l : Line) → Writable l → ofKind (fieldBytes l) ≡ some l
-unfolding atomFields claimFields sameList
+unfolding atomFields modelFields claimFields sameList
 kind-back (atomLine n name) w = rw (number-back n (w .0))
 kind-back (formulaLine n node) w = formula-fields-back n (w .0) node (w .1)
 kind-back (rowLine n r) w = row-fields-back n r w
+kind-back (modelLine atoms) w = rw (list-back atoms w)
 kind-back (claimLine left right) w = rw (list-back left (w .0), list-back right (w .1))
 
 -- the fields of a line are those that were written
@@ -171,6 +173,7 @@ unfolding bytesOf
 fields-back (atomLine n name) w = fields-parted _ _ (fields-without tab (omega arith) (atomLine n name) w)
 fields-back (formulaLine n node) w = fields-parted _ _ (fields-without tab (omega arith) (formulaLine n node) w)
 fields-back (rowLine n r) w = fields-parted _ _ (fields-without tab (omega arith) (rowLine n r) w)
+fields-back (modelLine atoms) w = fields-parted _ _ (fields-without tab (omega arith) (modelLine atoms) w)
 fields-back (claimLine left right) w = fields-parted _ _ (fields-without tab (omega arith) (claimLine left right) w)
 
 -- what is written of a line is read as that line

@@ -1,24 +1,26 @@
 -- A whole file to be written: its parts, its lines and its text; the file that the text comes to; and what 01 asks of it
 -- besides the form of its lines. WrittenDocuments proves that every good one is accepted as written.
-use Prim.Native.Nat.{ℕ, _+_, _≤_}
+use Prim.Native.Nat.{ℕ, _+_, _-_, _≤_}
 use mathlib.Core.Path.{_≡_}
 use mathlib.Core.Bool.{true}
 use mathlib.Core.List.{List, [], _∷_, _++_}
-use mathlib.Core.Option.{some}
+use mathlib.Core.Option.{Option, none, some}
 use lib.ListN.{length}
-use Rattle.format.specs.Text.{Bytes}
-use Rattle.format.specs.File.{Node, Row, Name, Body, claimed, File}
-use Rattle.format.specs.Line.{Line, atomLine, formulaLine, rowLine, claimLine}
+use Rattle.format.specs.Text.{Bytes, _<$>_}
+use Rattle.format.specs.File.{Node, Row, Name, Model, Body, claimed, File, decoded}
+use Rattle.format.specs.Line.{Line, atomLine, formulaLine, rowLine, modelLine, claimLine}
 use Rattle.format.specs.Tables.{mostBytes}
 use Rattle.format.specs.Tests.{lastIs}
-use Rattle.format.specs.Good.{GoodBody, GoodNames}
+use Rattle.format.specs.Model.{Confirmed}
+use Rattle.format.specs.Good.{GoodBody, GoodNames, GoodModel}
 use Rattle.format.specs.Written.{decimal, bytesOf, textOf}
 
--- the names of the atoms, the formulas, the rows, and the two sides of the claim
+-- the names of the atoms, the formulas, the rows, the atoms of the M line if there is one, and the two sides of the claim
 pub record Document : Type 0 where
   pub names : List Bytes
   pub nodes : List Node
   pub rows : List Row
+  pub model : Option (List ℕ)
   pub left : List ℕ
   pub right : List ℕ
 
@@ -41,9 +43,14 @@ formulaLines d = numbered formulaLine 0 (d .nodes)
 abbrev pub rowLines : Document → List Line
 rowLines d = numbered rowLine 0 (d .rows)
 
--- all A lines, then F, then N, then the C line
+-- the M line, if there is one
+abbrev pub modelLines : Option (List ℕ) → List Line
+modelLines none = []
+modelLines (some atoms) = modelLine atoms ∷ []
+
+-- all A lines, then F, then N, then the M line, then the C line
 abbrev pub linesIn : Document → List Line
-linesIn d = atomLines d ++ (formulaLines d ++ (rowLines d ++ claimLine (d .left) (d .right) ∷ []))
+linesIn d = atomLines d ++ (formulaLines d ++ (rowLines d ++ (modelLines (d .model) ++ claimLine (d .left) (d .right) ∷ [])))
 
 -- the text of a document
 abbrev pub written : Document → Bytes
@@ -65,13 +72,18 @@ namesIn names = namesFrom 0 0 names
 abbrev pub bodyOf : Document → Body
 bodyOf d = record { atoms = length (d .names); nodes = d .nodes; rows = d .rows }
 
--- the file, with the claim on the last line
+-- the model of these atoms on this line
+abbrev pub modelOn : ℕ → List ℕ → Model
+modelOn line atoms = record { line = line; atoms = atoms }
+
+-- the file, with the claim on the last line and its model on the one before
 abbrev pub fileOf : Document → File
 fileOf d =
     record {
       names = namesIn (d .names);
       body = bodyOf d;
       stage = claimed;
+      model = modelOn (length (linesIn d) - 1) <$> d .model;
       claim = some (record { line = length (linesIn d); left = d .left; right = d .right });
     }
 
@@ -83,7 +95,11 @@ pub record GoodDocument (d : Document) : Type 0 where
   pub names : GoodNames (length (d .names)) (namesIn (d .names))
   -- atoms, formulas and rows that pass their tests, each over those before it
   pub body : GoodBody (bodyOf d)
+  -- an M line whose atoms are there and rise
+  pub model : (atoms : List ℕ) → d .model ≡ some atoms → GoodModel (length (d .names)) atoms
   -- the last row is an ELK row with exactly the claim's sides
   pub claim : lastIs (d .rows) (d .left) (d .right) ≡ true
+  -- the M line confirms the claim, or there is none and the claim reports a contradiction
+  pub confirmed : Confirmed (decoded (d .nodes) (d .left)) (decoded (d .nodes) (d .right)) (d .model)
   -- as many bytes as a text may have
   pub short : length (written d) ≤ mostBytes

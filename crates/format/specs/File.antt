@@ -7,7 +7,7 @@ use lib.ListN.{getD}
 use Rattle.equilibrium.specs.Formula.{Formula}
 use Rattle.elk.specs.Sequent.{Sequent}
 use Rattle.elk.specs.Rules.{Rule, entry, kindOf}
-use Rattle.format.specs.Text.{Bytes}
+use Rattle.format.specs.Text.{Bytes, _<$>_}
 
 -- one F line: a word with an atom number, or with formula numbers
 pub data Node : Type 0 where
@@ -28,6 +28,11 @@ pub record Name : Type 0 where
   pub start : ℕ
   pub name : Bytes
 
+-- the M line: the set of atoms that is to be a model, and the number of the line
+pub record Model : Type 0 where
+  pub line : ℕ
+  pub atoms : List ℕ
+
 -- the C line: its sequent, and the number of the line
 pub record Claim : Type 0 where
   pub line : ℕ
@@ -42,14 +47,19 @@ pub record Body : Type 0 where
 
 -- the kind of the last line: what may follow it
 pub data Stage : Type 0 where
-  in-atoms in-formulas in-rows claimed : Stage
+  in-atoms in-formulas in-rows modelled claimed : Stage
 
 -- what an accepted beginning of a file holds
 pub record File : Type 0 where
   pub names : List Name
   pub body : Body
   pub stage : Stage
+  pub model : Option Model
   pub claim : Option Claim
+
+-- the atoms of the M line, if there is one
+abbrev pub atomsGiven : Option Model → Option (List ℕ)
+atomsGiven model = (λ (m : Model). m .atoms) <$> model
 
 -- nothing yet
 abbrev pub noBody : Body
@@ -65,7 +75,7 @@ addRow b r = record { atoms = b .atoms; nodes = b .nodes; rows = b .rows ++ r �
 
 -- the file before its first line
 abbrev pub noFile : File
-noFile = record { names = []; body = noBody; stage = in-atoms; claim = none }
+noFile = record { names = []; body = noBody; stage = in-atoms; model = none; claim = none }
 
 -- the formula of a number, where the formulas of 0, 1, 2, .. are listed
 abbrev pub formulaAt : List Formula → ℕ → Formula

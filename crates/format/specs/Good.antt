@@ -2,17 +2,18 @@
 -- and of what its lines have said.
 use Prim.Native.Nat.{ℕ, _<_, _≤_}
 use mathlib.Core.Path.{_≡_}
-use mathlib.Core.Bool.{true}
+use mathlib.Core.Bool.{true, false}
 use mathlib.Core.List.{List, [], map, reverse}
 use mathlib.Core.Option.{none, some}
 use lib.ListN.{length, getD}
 use Rattle.equilibrium.specs.Meaning.{_∈_}
 use Rattle.elk.specs.Sequent.{Sequent}
-use Rattle.format.specs.Text.{Bytes, isName}
-use Rattle.format.specs.File.{Node, Row, Name, Claim, Body, File, addNode, addRow, sequentOf}
+use Rattle.format.specs.Text.{Bytes, any, isName}
+use Rattle.format.specs.File.{Node, Row, Name, Model, Claim, Body, modelled, File, atomsGiven, addNode, addRow, sequentOf, decoded}
 use Rattle.format.specs.Line.{claimLine, lineOf}
 use Rattle.format.specs.Tables.{mostAtoms}
-use Rattle.format.specs.Tests.{first, rank, nodeTests, bodyTests, lastIs}
+use Rattle.format.specs.Tests.{first, rank, notEarlier, badSide, nodeTests, bodyTests, lastIs}
+use Rattle.format.specs.Model.{Confirmed}
 use Rattle.format.specs.Judged.{saidBy}
 
 -- so many atoms, and nothing else
@@ -40,16 +41,27 @@ pub record GoodNames (atoms : ℕ) (names : List Name) : Type 0 where
   pub form : (name : Bytes) → name ∈ spellings names → isName name ≡ true
   pub distinct : (i j : ℕ) → i < atoms → j < atoms → getD (spellings names) i [] ≡ getD (spellings names) j [] → i ≡ j
 
+-- the list of an M line: atoms that are there, written as a side would be
+pub record GoodModel (atoms : ℕ) (model : List ℕ) : Type 0 where
+  pub known : any (notEarlier atoms) model ≡ false
+  pub side : badSide model ≡ false
+
 -- the beginning made of these lines, and the file that it comes to
 pub record Good (done : List Bytes) (f : File) : Type 0 where
   pub body : GoodBody (f .body)
   pub names : GoodNames (f .body .atoms) (f .names)
   pub no-nodes : rank (f .stage) ≤ 0 → f .body .nodes ≡ []
   pub no-rows : rank (f .stage) ≤ 1 → f .body .rows ≡ []
-  pub no-claim : rank (f .stage) ≤ 2 → f .claim ≡ none
-  pub claim-made : 3 ≤ rank (f .stage) → (c : Claim) × (f .claim ≡ some c)
-  pub said : saidBy done ≡ record { names = spellings (f .names); nodes = f .body .nodes }
+  pub no-model : rank (f .stage) ≤ 2 → f .model ≡ none
+  pub model-made : f .stage ≡ modelled → (m : Model) × (f .model ≡ some m)
+  pub model : (m : Model) → f .model ≡ some m → GoodModel (f .body .atoms) (m .atoms)
+  pub no-claim : rank (f .stage) ≤ 3 → f .claim ≡ none
+  pub claim-made : 4 ≤ rank (f .stage) → (c : Claim) × (f .claim ≡ some c)
+  pub said : saidBy done ≡ record { names = spellings (f .names); nodes = f .body .nodes; model = atomsGiven (f .model) }
   pub claims-read :
       (line : Bytes) (l r : List ℕ) → line ∈ done → lineOf line ≡ some (claimLine l r)
       → (c : Claim) × (f .claim ≡ some c) × (c .left ≡ l) × (c .right ≡ r)
+  pub claim-said : (c : Claim) → f .claim ≡ some c → (line : Bytes) × (line ∈ done) × (lineOf line ≡ some (claimLine (c .left) (c .right)))
   pub claim-last : (c : Claim) → f .claim ≡ some c → lastIs (f .body .rows) (c .left) (c .right) ≡ true
+  pub confirmed :
+      (c : Claim) → f .claim ≡ some c → Confirmed (decoded (f .body .nodes) (c .left)) (decoded (f .body .nodes) (c .right)) (atomsGiven (f .model))

@@ -8,10 +8,11 @@ use lib.Dec.{ltb}
 use lib.ListN.{length, getD}
 use Rattle.equilibrium.specs.Meaning.{_∈_, Fails}
 use Rattle.format.specs.Text.{Bytes, linesOf, fieldsOf}
-use Rattle.format.specs.File.{Node, Row, Claim, in-atoms, in-formulas, in-rows, claimed, File, addNode, addRow, noFile, decoded}
-use Rattle.format.specs.Line.{Line, atomLine, formulaLine, rowLine, claimLine, lineOf}
+use Rattle.format.specs.File.{Node, Row, Model, Claim, in-atoms, in-formulas, in-rows, modelled, claimed, File, addNode, addRow, noFile, decoded}
+use Rattle.format.specs.Line.{Line, atomLine, formulaLine, rowLine, modelLine, claimLine, lineOf}
 use Rattle.format.specs.Tables.{Lent, tooShort, Contents, encode, mostBytes}
-use Rattle.format.specs.Tests.{Test, _when_, first, atomTests, formulaTests, rowTests, claimTests}
+use Rattle.format.specs.Tests.{Test, _when_, first, atomTests, formulaTests, rowTests, modelLineTests, claimTests}
+use Rattle.format.specs.Model.{Shown, confirmationTests}
 
 -- where a line stands: its number from 1, and the byte of the text at which it starts
 pub record Place : Type 0 where
@@ -23,10 +24,15 @@ pub data Outcome (S : Type 0) : Type 0 where
   next : S → Outcome S
   refused : ℕ → ℕ → Outcome S
 
--- the file with one line more, where no test applies
-abbrev pub settled : Option ℕ → Place → File → Outcome File
-settled none p f = next f
-settled (some n) p f = refused n (p .line)
+-- the file with one line more, where no test applies; the line that a refusal belongs to
+abbrev pub settled : Option ℕ → ℕ → File → Outcome File
+settled none line f = next f
+settled (some n) line f = refused n line
+
+-- go on where nothing was refused
+abbrev pub after : {S : Type 0} → Outcome S → (S → Outcome S) → Outcome S
+after (next s) k = k s
+after (refused n l) k = refused n l
 
 -- the byte at which the third field of an A line starts
 abbrev pub nameStart : Place → Bytes → ℕ
@@ -39,27 +45,40 @@ withAtom f start name =
       names = f .names ++ record { start = start; name = name } ∷ [];
       body = record { atoms = f .body .atoms + 1; nodes = f .body .nodes; rows = f .body .rows };
       stage = in-atoms;
+      model = f .model;
       claim = f .claim;
     }
 
 -- the file with one formula more
 abbrev pub withNode : File → Node → File
-withNode f node = record { names = f .names; body = addNode (f .body) node; stage = in-formulas; claim = f .claim }
+withNode f node = record { names = f .names; body = addNode (f .body) node; stage = in-formulas; model = f .model; claim = f .claim }
 
 -- the file with one row more
 abbrev pub withRow : File → Row → File
-withRow f r = record { names = f .names; body = addRow (f .body) r; stage = in-rows; claim = f .claim }
+withRow f r = record { names = f .names; body = addRow (f .body) r; stage = in-rows; model = f .model; claim = f .claim }
+
+-- the file with its model
+abbrev pub withModel : File → Model → File
+withModel f m = record { names = f .names; body = f .body; stage = modelled; model = some m; claim = f .claim }
 
 -- the file with its claim
 abbrev pub withClaim : File → Claim → File
-withClaim f c = record { names = f .names; body = f .body; stage = claimed; claim = some c }
+withClaim f c = record { names = f .names; body = f .body; stage = claimed; model = f .model; claim = some c }
+
+-- the line that 15, 16 and 17 belong to: the M line, or the claim's own if there is none
+abbrev pub reportedOn : Option Model → ℕ → ℕ
+reportedOn none line = line
+reportedOn (some m) line = m .line
 
 -- a line that is well written
 unfoldable pub stepRead : File → Place → Bytes → Line → Outcome File
-stepRead f p line (atomLine n name) = settled (first (atomTests f n name)) p (withAtom f (nameStart p line) name)
-stepRead f p line (formulaLine n node) = settled (first (formulaTests f n node)) p (withNode f node)
-stepRead f p line (rowLine n r) = settled (first (rowTests f n r)) p (withRow f r)
-stepRead f p line (claimLine left right) = settled (first (claimTests f left right)) p (withClaim f (record { line = p .line; left = left; right = right }))
+stepRead f p line (atomLine n name) = settled (first (atomTests f n name)) (p .line) (withAtom f (nameStart p line) name)
+stepRead f p line (formulaLine n node) = settled (first (formulaTests f n node)) (p .line) (withNode f node)
+stepRead f p line (rowLine n r) = settled (first (rowTests f n r)) (p .line) (withRow f r)
+stepRead f p line (modelLine atoms) = settled (first (modelLineTests f atoms)) (p .line) (withModel f (record { line = p .line; atoms = atoms }))
+stepRead f p line (claimLine left right) =
+    after (settled (first (claimTests f left right)) (p .line) f)
+    (λ g. settled (first (confirmationTests g left right)) (reportedOn (g .model) (p .line)) (withClaim g (record { line = p .line; left = left; right = right })))
 
 -- a line that is badly written is refused with 3
 abbrev pub orBadLine : Option Line → Place → (Line → Outcome File) → Outcome File
@@ -69,11 +88,6 @@ orBadLine (some l) p k = k l
 -- one line
 unfoldable pub step : File → Place → Bytes → Outcome File
 step f p line = orBadLine (lineOf line) p (stepRead f p line)
-
--- go on where nothing was refused
-abbrev pub after : {S : Type 0} → Outcome S → (S → Outcome S) → Outcome S
-after (next s) k = k s
-after (refused n l) k = refused n l
 
 -- the place of the next line
 abbrev pub below : Place → Bytes → Place
@@ -151,17 +165,19 @@ contents t text = heldBy (judged t text) (beginning text)
 
 -- the text's claim, read off its own lines with no regard to the judgement
 
--- what lines have said so far: the names of atoms, and the formulas, each in its order
+-- what lines have said so far: the names of atoms and the formulas, each in its order, and the atoms of the M line
 pub record Said : Type 0 where
   pub names : List Bytes
   pub nodes : List Node
+  pub model : Option (List ℕ)
 
 -- what one line says more
 abbrev pub saying : Said → Option Line → Said
 saying s none = s
-saying s (some (atomLine n name)) = record { names = s .names ++ name ∷ []; nodes = s .nodes }
-saying s (some (formulaLine n node)) = record { names = s .names; nodes = s .nodes ++ node ∷ [] }
+saying s (some (atomLine n name)) = record { names = s .names ++ name ∷ []; nodes = s .nodes; model = s .model }
+saying s (some (formulaLine n node)) = record { names = s .names; nodes = s .nodes ++ node ∷ []; model = s .model }
 saying s (some (rowLine n r)) = s
+saying s (some (modelLine atoms)) = record { names = s .names; nodes = s .nodes; model = some atoms }
 saying s (some (claimLine left right)) = s
 
 -- what lines say after others
@@ -171,11 +187,15 @@ saidAfter s (l ∷ ls) = saidAfter (saying s (lineOf l)) ls
 
 -- what lines say from the first on
 abbrev pub saidBy : List Bytes → Said
-saidBy lines = saidAfter (record { names = []; nodes = [] }) lines
+saidBy lines = saidAfter (record { names = []; nodes = []; model = none }) lines
 
 -- the formulas of a text's F lines
 abbrev pub nodesIn : Bytes → List Node
 nodesIn text = saidBy (linesOf text .complete) .nodes
+
+-- the atoms of its M line, if there is one
+abbrev pub modelIn : Bytes → Option (List ℕ)
+modelIn text = saidBy (linesOf text .complete) .model
 
 -- some C line of the text claims a sequent that fails
 pub record ClaimFails (text : Bytes) : Type 0 where
@@ -185,3 +205,14 @@ pub record ClaimFails (text : Bytes) : Type 0 where
   pub in-text : line ∈ linesOf text .complete
   pub is-claim : lineOf line ≡ some (claimLine left right)
   pub fails : Fails (decoded (nodesIn text) left) (decoded (nodesIn text) right)
+
+-- The text claims one sequent, and the claim is confirmed by the model on the M line, or there is none and a contradiction is
+-- shown.
+pub record ClaimShown (text : Bytes) : Type 0 where
+  pub line : Bytes
+  pub left : List ℕ
+  pub right : List ℕ
+  pub in-text : line ∈ linesOf text .complete
+  pub is-claim : lineOf line ≡ some (claimLine left right)
+  pub only : (m : Bytes) (l r : List ℕ) → m ∈ linesOf text .complete → lineOf m ≡ some (claimLine l r) → (l ≡ left) × (r ≡ right)
+  pub shown : Shown (decoded (nodesIn text) left) (decoded (nodesIn text) right) (modelIn text)

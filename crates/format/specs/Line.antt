@@ -10,11 +10,12 @@ use Rattle.elk.specs.Rules.{Rule, rules, wordOf}
 use Rattle.format.specs.Text.{Bytes, fieldsOf, numberOf, sideOf, premiseListOf, principalOf, is, _<$>_, _<*>_, onlyIf}
 use Rattle.format.specs.File.{Node, Row}
 
--- the four kinds of line: A, F, N and C, with what they say
+-- the five kinds of line: A, F, N, M and C, with what they say
 pub data Line : Type 0 where
   atomLine : ℕ → Bytes → Line
   formulaLine : ℕ → Node → Line
   rowLine : ℕ → Row → Line
+  modelLine : List ℕ → Line
   claimLine : List ℕ → List ℕ → Line
 
 -- the first of the rules whose word this is
@@ -76,6 +77,10 @@ rowFields fields =
     (λ n row. rowLine n row) <$> numberOf (fieldAt fields 0)
     <*> rowOf (fieldAt fields 1) (fieldAt fields 2) (fieldAt fields 3) (fieldAt fields 4) (fieldAt fields 5))
 
+-- atoms
+unfoldable pub modelFields : List Bytes → Option Line
+modelFields fields = ofFields 1 fields ((λ atoms. modelLine atoms) <$> sideOf (fieldAt fields 0))
+
 -- left, right
 unfoldable pub claimFields : List Bytes → Option Line
 claimFields fields = ofFields 2 fields ((λ l r. claimLine l r) <$> sideOf (fieldAt fields 0) <*> sideOf (fieldAt fields 1))
@@ -90,7 +95,8 @@ ofKind [] = none
 ofKind (kind ∷ fields) =
     cond (is "A" kind) (atomFields fields) (
     cond (is "F" kind) (formulaFields fields) (
-    cond (is "N" kind) (rowFields fields) (cond (is "C" kind) (claimFields fields) none)))
+    cond (is "N" kind) (rowFields fields) (
+    cond (is "M" kind) (modelFields fields) (cond (is "C" kind) (claimFields fields) none))))
 
 -- the line that these bytes write; none if they are badly written
 unfoldable pub lineOf : Bytes → Option Line

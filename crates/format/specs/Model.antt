@@ -12,6 +12,7 @@ use Rattle.equilibrium.specs.Meaning.{_∈_, Equilibrium}
 use Rattle.equilibrium.proofs.Sets.{dec-all}
 use Rattle.equilibrium.proofs.Models.{equilibrium?}
 use Rattle.elk.proofs.Equality.{formula-discrete}
+use Rattle.format.specs.File.{File, atomsGiven, decoded}
 use Rattle.format.specs.Tests.{Test, _when_, isNo}
 
 -- the claim reports a contradiction: its right side is empty or holds only falsum
@@ -31,6 +32,10 @@ mostInModel = 16
 abbrev pub modelTests : List Formula → List Formula → Option (List ℕ) → List Test
 modelTests L R none = (15 when isNo (contradiction? R)) ∷ []
 modelTests L R (some T) = (15 when not (isNo (contradiction? R))) ∷ (16 when ltb mostInModel (length T)) ∷ (17 when isNo (equilibrium? L T)) ∷ []
+
+-- the same for a claim of these two lists of formula numbers
+abbrev pub confirmationTests : File → List ℕ → List ℕ → List Test
+confirmationTests f left right = modelTests (decoded (f .body .nodes) left) (decoded (f .body .nodes) right) (atomsGiven (f .model))
 
 -- what passing them is: a model is there exactly if the claim reports no contradiction, and then it has few atoms and is an
 -- equilibrium model of L

@@ -10,7 +10,7 @@ use Rattle.elk.specs.Sequent.{Kind, elk, refutation, Sequent}
 use Rattle.elk.specs.Rules.{entry, hasPrincipal, premiseKinds, kindOf}
 use Rattle.elk.proofs.Decision.{instance?}
 use Rattle.format.specs.Text.{Bytes, _<$>_, any, isName, sameList, strictlyRising}
-use Rattle.format.specs.File.{Node, Row, Body, Stage, in-atoms, in-formulas, in-rows, claimed, File, decodedAt, sequentOf}
+use Rattle.format.specs.File.{Node, Row, Body, Stage, in-atoms, in-formulas, in-rows, modelled, claimed, File, decodedAt, sequentOf}
 use Rattle.format.specs.Tables.{nodeRecord, leftPool, rightPool, mostAtoms, mostFormulas, mostRows, mostEntries, mostOnSide}
 
 -- a refusal number, and whether it applies
@@ -33,11 +33,16 @@ abbrev pub rank : Stage → ℕ
 rank in-atoms = 0
 rank in-formulas = 1
 rank in-rows = 2
-rank claimed = 3
+rank modelled = 3
+rank claimed = 4
 
--- a line of stage t may follow stage s: never back, and nothing after the claim
+-- lines of this stage may follow one another: M and C come once
+abbrev pub goesOn : Stage → Bool
+goesOn t = ltb (rank t) (rank modelled)
+
+-- a line of stage t may follow stage s: it begins a later stage, or goes on with the same one
 abbrev pub mayFollow : Stage → Stage → Bool
-mayFollow s t = leb (rank s) (rank t) && ltb (rank s) (rank claimed)
+mayFollow s t = ltb (rank s) (rank t) || (eqb (rank s) (rank t) && goesOn t)
 
 -- the kind is out of order, or the number is not the next one
 abbrev pub outOfOrder : Stage → Stage → ℕ → ℕ → Bool
@@ -175,7 +180,17 @@ bodyTests b r = roomTests b r ++ referenceTests b r ++ sideTests (r .left) (r .r
 abbrev pub rowTests : File → ℕ → Row → List Test
 rowTests f n r = (4 when outOfOrder (f .stage) in-rows (length (f .body .rows)) n) ∷ bodyTests (f .body) r
 
--- C
+-- M
+
+-- order, atoms that are there, and a list as a side would be
+abbrev pub modelLineTests : File → List ℕ → List Test
+modelLineTests f atoms =
+    (4 when not (mayFollow (f .stage) modelled))
+    ∷ (7 when any (notEarlier (f .body .atoms)) atoms)
+    ∷ (9 when badSide atoms)
+    ∷ []
+
+-- C. The tests of its model, which come after these, are in Model.
 
 -- the last row is an ELK row with exactly these sides
 abbrev pub lastIs : List Row → List ℕ → List ℕ → Bool

@@ -127,7 +127,7 @@ numberOf field = onlyIf (leb 1 (length field) && leb (length field) 5 && all isD
 unfoldable pub listOf : Bytes → Option (List ℕ)
 listOf field = cond (is "-" field) (some []) (each numberOf (partsAt comma field))
 
--- a list of formula numbers
+-- a list of formula numbers, or of the atoms of a model
 abbrev pub sideOf : Bytes → Option (List ℕ)
 sideOf field = listOf field
 

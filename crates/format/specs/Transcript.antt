@@ -15,6 +15,7 @@ use Rattle.format.specs.Text.{Bytes, bytes, strictlyRising, _<$>_}
 use Rattle.format.specs.File.{Node, Row, Body, formulas, decodedAt, decoded, sequentOf}
 use Rattle.format.specs.Tables.{Lent, tooShort, leftPool, rightPool, encode, mostAtoms, mostFormulas, mostRows, mostEntries, mostOnSide, mostBytes}
 use Rattle.format.specs.Tests.{premisesOf}
+use Rattle.format.specs.Model.{Confirmed}
 use Rattle.format.specs.Judged.{accepted, judged, contents}
 use Rattle.format.specs.Good.{GoodBody}
 use Rattle.format.specs.Written.{decimal}
@@ -83,21 +84,29 @@ pub record Transcript (atoms : ℕ) {ss : List Sequent} (d : Derivation ss) : Ty
   pub rising : (r : Row) → r ∈ rows → SidesRise r
   pub good : Within (record { atoms = atoms; nodes = nodes; rows = rows }) → GoodBody (record { atoms = atoms; nodes = nodes; rows = rows })
 
--- the transcript as a whole file, with names and a claim
-abbrev pub documentOf : List Bytes → {atoms : ℕ} {ss : List Sequent} {d : Derivation ss} → Transcript atoms d → List ℕ → List ℕ → Document
-documentOf names t left right = record { names = names; nodes = t .nodes; rows = t .rows; left = left; right = right }
+-- the transcript as a whole file, with names, perhaps an M line, and a claim
+abbrev pub documentOf : List Bytes → {atoms : ℕ} {ss : List Sequent} {d : Derivation ss} → Transcript atoms d → Option (List ℕ) → List ℕ → List ℕ → Document
+documentOf names t model left right = record { names = names; nodes = t .nodes; rows = t .rows; model = model; left = left; right = right }
 
--- a text whose rows are a derivation of L => R and whose claim is L => R; it is accepted if it is within the limits
+-- the atoms of an M line are written in strictly rising order
+abbrev pub ModelRises : Option (List ℕ) → Type 0
+ModelRises none = Unit {0}
+ModelRises (some atoms) = strictlyRising atoms ≡ true
+
+-- A text whose rows are a derivation of L => R and whose claim is L => R. With an M line that confirms the claim, or with none
+-- where the claim reports a contradiction, it is accepted if it is within the limits.
 pub record TextFor (names : List Bytes) {L R : List Formula} (e : EndsIn L R) : Type 0 where
   pub transcript : Transcript (length names) (e .derivation)
   pub left : List ℕ
   pub right : List ℕ
   pub claims-left : decoded (transcript .nodes) left ≈ L
   pub claims-right : decoded (transcript .nodes) right ≈ R
-  pub accepted-if : Within (bodyOf (documentOf names transcript left right)) → length (written (documentOf names transcript left right)) ≤ mostBytes
+  pub accepted-if :
+      (model : Option (List ℕ)) → ModelRises model → Confirmed L R model → Within (bodyOf (documentOf names transcript model left right))
+      → length (written (documentOf names transcript model left right)) ≤ mostBytes
       → (t : Lent) → tooShort t ≡ false
-      → (judged t (written (documentOf names transcript left right)) ≡ accepted (length (linesIn (documentOf names transcript left right))))
-      × (contents t (written (documentOf names transcript left right)) ≡ encode (fileOf (documentOf names transcript left right)))
+      → (judged t (written (documentOf names transcript model left right)) ≡ accepted (length (linesIn (documentOf names transcript model left right))))
+      × (contents t (written (documentOf names transcript model left right)) ≡ encode (fileOf (documentOf names transcript model left right)))
 
 -- names for so many atoms: a0, a1, a2, ..
 abbrev pub plainNames : ℕ → List Bytes

@@ -9,7 +9,7 @@ use lib.Dec.{ltb}
 use Rattle.elk.specs.Rules.{wordOf}
 use Rattle.format.specs.Text.{Bytes, bytes, tab, lineFeed, comma, isName}
 use Rattle.format.specs.File.{Node, Row}
-use Rattle.format.specs.Line.{Line, atomLine, formulaLine, rowLine, claimLine}
+use Rattle.format.specs.Line.{Line, atomLine, formulaLine, rowLine, modelLine, claimLine}
 use Rattle.format.specs.Tests.{listed}
 
 -- parts with one separator between any two
@@ -72,6 +72,7 @@ abbrev pub fieldBytes : Line → List Bytes
 fieldBytes (atomLine n name) = bytes "A" ∷ decimal n ∷ name ∷ []
 fieldBytes (formulaLine n node) = bytes "F" ∷ decimal n ∷ nodeBytes node
 fieldBytes (rowLine n r) = bytes "N" ∷ decimal n ∷ rowBytes r
+fieldBytes (modelLine atoms) = bytes "M" ∷ listBytes atoms ∷ []
 fieldBytes (claimLine left right) = bytes "C" ∷ listBytes left ∷ listBytes right ∷ []
 
 -- the bytes of a line, without its LF
@@ -101,4 +102,5 @@ abbrev pub Writable : Line → Type 0
 Writable (atomLine n name) = Small n × (isName name ≡ true)
 Writable (formulaLine n node) = Small n × Each Small (nodeNumbers node)
 Writable (rowLine n r) = Small n × Each Small (listed (r .principal)) × Each Small (r .premises) × Each Small (r .left) × Each Small (r .right)
+Writable (modelLine atoms) = Each Small atoms
 Writable (claimLine left right) = Each Small left × Each Small right
