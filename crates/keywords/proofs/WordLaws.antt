@@ -18,34 +18,37 @@ use Rattle.format.proofs.Booleans.{and-true as both}
 use Rattle.parts.specs.Refusals.{badUnless}
 use Rattle.parts.proofs.OneByte.{one-byte, not-one-byte}
 use Rattle.keywords.specs.Words.{kindNamed, formulaWord, ruleCode, keyOf, IsKey, isShort, wordKey, codeAmong, noWord, noRule, kindRefusal, KindRead}
-use Rattle.keywords.specs.declared.Kind.the-variants.{Atom, Formula, Row, Claim, Unknown}
+use Rattle.keywords.specs.declared.Kind.the-variants.{Atom, Formula, Row, Model, Claim, Unknown}
 use Rattle.keywords.specs.declared.Kind.{Kind}
 
 -- ---- kinds of line
 
 pub kind-long : (field : Bytes) → (length field ≡ 1 → ⊥) → kindNamed field ≡ Unknown
 unfolding kindNamed
-kind-long field h = simp (not-one-byte field 65 h, not-one-byte field 70 h, not-one-byte field 78 h, not-one-byte field 67 h)
+kind-long field h =
+    simp (not-one-byte field 65 h, not-one-byte field 70 h, not-one-byte field 78 h, not-one-byte field 77 h, not-one-byte field 67 h)
 
 pub kind-byte : (field : Bytes) → length field ≡ 1
     → kindNamed field
     ≡ cond (eqb (getD field 0 0) 65) Atom (
-    cond (eqb (getD field 0 0) 70) Formula (cond (eqb (getD field 0 0) 78) Row (cond (eqb (getD field 0 0) 67) Claim Unknown)))
+    cond (eqb (getD field 0 0) 70) Formula (
+    cond (eqb (getD field 0 0) 78) Row (cond (eqb (getD field 0 0) 77) Model (cond (eqb (getD field 0 0) 67) Claim Unknown))))
 unfolding kindNamed
-kind-byte field h = simp (one-byte field 65 h, one-byte field 70 h, one-byte field 78 h, one-byte field 67 h)
+kind-byte field h = simp (one-byte field 65 h, one-byte field 70 h, one-byte field 78 h, one-byte field 77 h, one-byte field 67 h)
 
-kind-refusal : (a f n c : Bool)
-    → kindRefusal (cond a Atom (cond f Formula (cond n Row (cond c Claim Unknown)))) ≡ badUnless (a || f || n || c)
-kind-refusal true f n c = refl
-kind-refusal false true n c = refl
-kind-refusal false false true c = refl
-kind-refusal false false false true = refl
-kind-refusal false false false false = refl
+kind-refusal : (a f n m c : Bool)
+    → kindRefusal (cond a Atom (cond f Formula (cond n Row (cond m Model (cond c Claim Unknown))))) ≡ badUnless (a || f || n || m || c)
+kind-refusal true f n m c = refl
+kind-refusal false true n m c = refl
+kind-refusal false false true m c = refl
+kind-refusal false false false true c = refl
+kind-refusal false false false false true = refl
+kind-refusal false false false false false = refl
 
 pub kind-answered : (field : Bytes) {r : Kind} → r ≡ kindNamed field → KindRead field r
 unfolding kindNamed
 kind-answered field e =
-    record { answer = e; refusal = ap kindRefusal e ∙ kind-refusal (is "A" field) (is "F" field) (is "N" field) (is "C" field) }
+    record { answer = e; refusal = ap kindRefusal e ∙ kind-refusal (is "A" field) (is "F" field) (is "N" field) (is "M" field) (is "C" field) }
 
 -- ---- keys
 

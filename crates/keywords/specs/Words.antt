@@ -10,20 +10,23 @@ use Rattle.elk.specs.Rules.{Rule, codeOf, wordOf}
 use Rattle.format.specs.Text.{Bytes, bytes, is, all, sameList}
 use Rattle.parts.specs.Refusals.{badLine, badUnless}
 use Rattle.keywords.specs.declared.Kind.{Kind}
-use Rattle.keywords.specs.declared.Kind.the-variants.{Atom, Formula, Row, Claim, Unknown}
+use Rattle.keywords.specs.declared.Kind.the-variants.{Atom, Formula, Row, Model, Claim, Unknown}
 
 -- the kind of line that a first field names
 unfoldable pub kindNamed : Bytes → Kind
-kindNamed field = cond (is "A" field) Atom (cond (is "F" field) Formula (cond (is "N" field) Row (cond (is "C" field) Claim Unknown)))
+kindNamed field =
+    cond (is "A" field) Atom (
+    cond (is "F" field) Formula (cond (is "N" field) Row (cond (is "M" field) Model (cond (is "C" field) Claim Unknown))))
 
 abbrev pub isKind : Bytes → Bool
-isKind field = is "A" field || is "F" field || is "N" field || is "C" field
+isKind field = is "A" field || is "F" field || is "N" field || is "M" field || is "C" field
 
 -- the refusal number of each answer
 abbrev pub kindRefusal : Kind → Option ℕ
 kindRefusal Atom = none
 kindRefusal Formula = none
 kindRefusal Row = none
+kindRefusal Model = none
 kindRefusal Claim = none
 kindRefusal Unknown = some badLine
 

@@ -8,6 +8,7 @@ pub enum Kind {
     Atom,
     Formula,
     Row,
+    Model,
     Claim,
     Unknown,
 }
@@ -28,6 +29,9 @@ pub fn line_kind(field: &[u8]) -> Kind
     }
     if b == b'N' {
         return Kind::Row;
+    }
+    if b == b'M' {
+        return Kind::Model;
     }
     if b == b'C' {
         return Kind::Claim;

@@ -101,6 +101,7 @@ fn show_kind(field: &[u8]) {
         Kind::Atom => put(b"atom"),
         Kind::Formula => put(b"formula"),
         Kind::Row => put(b"row"),
+        Kind::Model => put(b"model"),
         Kind::Claim => put(b"claim"),
         Kind::Unknown => put(b"unknown"),
     }

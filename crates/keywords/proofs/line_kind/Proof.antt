@@ -39,12 +39,25 @@ returns-5 c =
 
 returns-6 : tie.Need-returns-6
 returns-6 c =
-    let at-if4 = c .before in
+    let at-if5 = c .before in
+    let at-if4 = at-if5 .before in
     let at-if3 = at-if4 .before in
     let at-if2 = at-if3 .before in
+    let no-row = ne-eqb _ _ (at-if4 .if4 .left) in
     kind-answered _ (sym (
     kind-byte _ (at-if2 .before .before .if1 .left)
-    ∙ simp (ne-eqb _ _ (at-if2 .if2 .left), ne-eqb _ _ (at-if3 .if3 .left), ne-eqb _ _ (at-if4 .if4 .left), ne-eqb _ _ (c .if5 .left))))
+    ∙ simp (ne-eqb _ _ (at-if2 .if2 .left), ne-eqb _ _ (at-if3 .if3 .left), no-row, ne-eqb _ _ (at-if5 .if5 .left), eq-eqb _ _ (c .if6 .taken))))
+
+returns-7 : tie.Need-returns-7
+returns-7 c =
+    let at-if5 = c .before in
+    let at-if4 = at-if5 .before in
+    let at-if3 = at-if4 .before in
+    let at-if2 = at-if3 .before in
+    let no-row = ne-eqb _ _ (at-if4 .if4 .left) in
+    kind-answered _ (sym (
+    kind-byte _ (at-if2 .before .before .if1 .left)
+    ∙ simp (ne-eqb _ _ (at-if2 .if2 .left), ne-eqb _ _ (at-if3 .if3 .left), no-row, ne-eqb _ _ (at-if5 .if5 .left), ne-eqb _ _ (c .if6 .left))))
 
 pub line-kind-spec : {M : Type 1} → statement M
-line-kind-spec = tie.close (tie.spec returns shared-slice-read-b returns-2 returns-3 returns-4 returns-5 returns-6)
+line-kind-spec = tie.close (tie.spec returns shared-slice-read-b returns-2 returns-3 returns-4 returns-5 returns-6 returns-7)
