@@ -1,25 +1,30 @@
 -- The order of lines, by the numbers of the stages. Assumes nothing.
 use Prim.Native.Nat.{ℕ, _≤_, _<_}
-use mathlib.Core.Path.{_≡_, refl, sym, ap, ap₂, _∙_}
-use mathlib.Core.Bool.{Bool, true, false, not, _&&_, _||_}
+use native.Mathlib.Omega.{arith}
+use mathlib.Core.Path.{_≡_, refl, sym, ap, ap₂}
+use mathlib.Core.Bool.{Bool, true, false, not, _||_}
 use lib.Dec.{eqb, ltb, leb}
-use borrow.Author.Tests.{le-leb, lt-leb, ltb-true, ltb-false}
-use Rattle.format.specs.File.{Stage, claimed}
+use borrow.Author.Tests.{eq-eqb, ne-eqb, le-leb, lt-leb, lt-ltb, le-ltb, ltb-true, ltb-false}
+use Rattle.format.specs.File.{Stage, modelled}
 use Rattle.format.specs.Tests.{rank, mayFollow, outOfOrder}
 use Rattle.state.specs.State.{outOfTurn, notNext}
 
 module _ (stage coming : ℕ) where
+  pub turn-later : stage < coming → false ≡ outOfTurn stage coming
+  unfolding outOfTurn
+  turn-later h = sym (rw (lt-ltb stage coming h))
+
   pub turn-back : coming < stage → true ≡ outOfTurn stage coming
   unfolding outOfTurn
-  turn-back h = sym (ap (λ (b : Bool). not (b && ltb stage (rank claimed))) (lt-leb stage coming h))
+  turn-back h = sym (rw (le-ltb stage coming (omega arith), ne-eqb stage coming (λ e. omega arith)))
 
-  pub turn-last : stage ≤ coming → leb (rank claimed) stage ≡ outOfTurn stage coming
+  pub turn-again : coming ≤ stage → stage ≤ coming → leb (rank modelled) coming ≡ outOfTurn stage coming
   unfolding outOfTurn
-  turn-last h = sym (ap (λ (b : Bool). not (b && ltb stage (rank claimed))) (le-leb stage coming h) ∙ by-test (ltb stage (rank claimed)) refl)
+  turn-again h k = sym (rw (le-ltb stage coming h, eq-eqb stage coming (omega arith)) (by-test (ltb coming (rank modelled)) refl))
     where
-      by-test : (b : Bool) → ltb stage (rank claimed) ≡ b → not b ≡ leb (rank claimed) stage
-      by-test true e = sym (lt-leb (rank claimed) stage (ltb-true stage (rank claimed) e))
-      by-test false e = sym (le-leb (rank claimed) stage (ltb-false stage (rank claimed) e))
+      by-test : (b : Bool) → ltb coming (rank modelled) ≡ b → not b ≡ leb (rank modelled) coming
+      by-test true e = sym (lt-leb (rank modelled) coming (ltb-true coming (rank modelled) e))
+      by-test false e = sym (le-leb (rank modelled) coming (ltb-false coming (rank modelled) e))
 
   module _ (held number : ℕ) where
     pub order-turn : outOfTurn stage coming ≡ true → true ≡ notNext stage coming held number

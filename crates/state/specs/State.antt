@@ -4,14 +4,15 @@ use mathlib.Core.Path.{_≡_}
 use mathlib.Core.Bool.{Bool, not, _&&_, _||_}
 use mathlib.Core.List.{List}
 use mathlib.Core.Option.{Option, none, some}
-use lib.Dec.{eqb, ltb, leb}
+use lib.Dec.{eqb, ltb}
 use lib.ListN.{length}
 use Rattle.equilibrium.specs.Meaning.{_∈_}
 use Rattle.format.specs.Text.{Bytes}
-use Rattle.format.specs.File.{Name, Claim, in-atoms, claimed, File}
+use Rattle.format.specs.File.{Name, Model, Claim, in-atoms, modelled, claimed, File}
 use Rattle.format.specs.Tables.{padded, joinAll, nameRecord, nodeRecord, rowRecords, leftPool, rightPool, mostFormulas, least}
 use Rattle.format.specs.Tests.{rank}
 use Rattle.format.specs.Judged.{Outcome, next, refused}
+use Rattle.atomset.specs.AtomSet.{setOf}
 use Rattle.counts.specs.Counts.{countsOf, noCounts}
 use Rattle.known.specs.Known.{Known}
 use Rattle.tables.specs.Names.{StandsIn}
@@ -20,7 +21,7 @@ use Rattle.state.specs.declared.State.{State}
 use Rattle.state.specs.declared.Stepped.{Stepped}
 
 abbrev pub start : State
-start = record { counts = noCounts; stage = rank in-atoms; claim = 0 }
+start = record { counts = noCounts; stage = rank in-atoms; model = 0; «model_line» = 0; claim = 0 }
 
 -- a refusal: the number, the line that it belongs to, and the state as it was
 abbrev pub refusedBy : State → ℕ → ℕ → Stepped
@@ -28,15 +29,47 @@ refusedBy s number line = record { number = number; line = line; state = s }
 
 -- the state after a line of this stage
 abbrev pub passedBy : State → Counts → ℕ → ℕ → Stepped
-passedBy s counts stage line = record { number = 0; line = line; state = record { counts = counts; stage = stage; claim = s .claim } }
+passedBy s counts stage line =
+    record {
+      number = 0;
+      line = line;
+      state = record { counts = counts; stage = stage; model = s .model; «model_line» = s .«model_line»; claim = s .claim };
+    }
+
+-- the state after an M line of these atoms
+abbrev pub modelledBy : State → ℕ → ℕ → Stepped
+modelledBy s model line =
+    record {
+      number = 0;
+      line = line;
+      state = record { counts = s .counts; stage = rank modelled; model = model; «model_line» = line; claim = s .claim };
+    }
+
+-- the state after a claim
+abbrev pub claimedBy : State → ℕ → Stepped
+claimedBy s line =
+    record {
+      number = 0;
+      line = line;
+      state = record { counts = s .counts; stage = rank claimed; model = s .model; «model_line» = s .«model_line»; claim = line };
+    }
 
 -- a line of the stage `coming` may not follow, by the numbers of the stages
 unfoldable pub outOfTurn : ℕ → ℕ → Bool
-outOfTurn stage coming = not (leb stage coming && ltb stage (rank claimed))
+outOfTurn stage coming = not (ltb stage coming || (eqb stage coming && ltb coming (rank modelled)))
 
 -- the same, or its number is not the next one
 unfoldable pub notNext : ℕ → ℕ → ℕ → ℕ → Bool
 notNext stage coming held number = outOfTurn stage coming || not (eqb number held)
+
+-- the atoms of the M line as one word, and its line; the empty set and 0 if there is none
+abbrev pub modelWord : Option Model → ℕ
+modelWord none = 0
+modelWord (some m) = setOf (m .atoms)
+
+abbrev pub modelLine : Option Model → ℕ
+modelLine none = 0
+modelLine (some m) = m .line
 
 abbrev pub claimLine : Option Claim → ℕ
 claimLine none = 0
@@ -81,6 +114,8 @@ pub record Stored (text : Bytes) (f : File) (s : State) (t : Memory) : Type 0 wh
   pub full : Full t
   pub counts : s .counts ≡ countsOf (f .body)
   pub stage : s .stage ≡ rank (f .stage)
+  pub model : s .model ≡ modelWord (f .model)
+  pub model-line : s .«model_line» ≡ modelLine (f .model)
   pub claim : s .claim ≡ claimLine (f .claim)
   pub names-in : (n : Name) → n ∈ f .names → StandsIn text n
   pub names : Exactly (joinAll nameRecord (f .names)) (t .names)

@@ -1,12 +1,15 @@
 // What an accepted beginning has going besides its tables, handed in and back by value with each line.
 ghost use mathlib.Core.Path.{_≡_};
-ghost use Rattle.state.specs.State.{start, refusedBy, passedBy, outOfTurn, notNext};
+ghost use Rattle.state.specs.State.{start, refusedBy, passedBy, modelledBy, claimedBy, outOfTurn, notNext};
 use counts::Counts;
 
-// The counts of what the tables hold; the stage, that is the kind of the last line; and the line of the claim, 0 if there is none.
+// The counts of what the tables hold; the stage, that is the kind of the last line; the atoms of the M line and its line, no atom
+// and 0 if there is none; and the line of the claim, 0 if there is none.
 pub struct State {
     pub counts: Counts,
     pub stage: u32,
+    pub model: u64,
+    pub model_line: u32,
     pub claim: u32,
 }
 
@@ -17,7 +20,9 @@ pub const FORMULAS: u32 = 1;
 
 pub const ROWS: u32 = 2;
 
-pub const CLAIMED: u32 = 3;
+pub const MODELLED: u32 = 3;
+
+pub const CLAIMED: u32 = 4;
 
 // What a line comes to: 0 with the state after it, or a refusal number with the line that it belongs to and the state before.
 pub struct Stepped {
@@ -34,6 +39,8 @@ impl State {
         State {
             counts: Counts::none(),
             stage: ATOMS,
+            model: 0,
+            model_line: 0,
             claim: 0,
         }
     }
@@ -58,20 +65,61 @@ impl State {
             state: State {
                 counts,
                 stage,
+                model: self.model,
+                model_line: self.model_line,
                 claim: self.claim,
+            },
+        }
+    }
+
+    // The state after an M line of these atoms that passed.
+    pub fn modelled(self, model: u64, line: u32) -> Stepped
+        ensures { λ r. ⌜ r ≡ modelledBy self model line ⌝ }
+    {
+        let counts = self.counts;
+        Stepped {
+            number: 0,
+            line,
+            state: State {
+                counts,
+                stage: MODELLED,
+                model,
+                model_line: line,
+                claim: self.claim,
+            },
+        }
+    }
+
+    // The state after a claim that passed.
+    pub fn claimed(self, line: u32) -> Stepped
+        ensures { λ r. ⌜ r ≡ claimedBy self line ⌝ }
+    {
+        let counts = self.counts;
+        Stepped {
+            number: 0,
+            line,
+            state: State {
+                counts,
+                stage: CLAIMED,
+                model: self.model,
+                model_line: self.model_line,
+                claim: line,
             },
         }
     }
 }
 
-// Whether a line of stage `next` may not follow: never back, and nothing after the claim.
+// Whether a line of stage `next` may not follow: never back, and M and C come once.
 pub fn out_of_turn(stage: u32, next: u32) -> bool
     ensures { λ r. ⌜ r ≡ outOfTurn stage next ⌝ }
 {
+    if stage < next {
+        return false;
+    }
     if next < stage {
         return true;
     }
-    CLAIMED <= stage
+    MODELLED <= next
 }
 
 // Whether the kind of a line is out of order, or its number is not the next one.

@@ -11,7 +11,7 @@ none-requires : tie.Need-none-requires
 none-requires c κs = search needs
 
 returns : tie.Need-returns
-returns c = ap (λ (n : Counts). record { counts = n; stage = rank in-atoms; claim = 0 }) (c .none .ensures)
+returns c = ap (λ (n : Counts). record { counts = n; stage = rank in-atoms; model = 0; «model_line» = 0; claim = 0 }) (c .none .ensures)
 
 pub start-spec : {M : Type 1} → statement M
 start-spec = tie.close (tie.spec none-requires returns)
