@@ -31,7 +31,7 @@ fn ahead(principal: Optional, held: usize) -> bool
 }
 
 // Whether a side does not rise strictly, or is too long.
-fn bad_side(side: Listed) -> bool
+pub fn bad_side(side: Listed) -> bool
     ensures { λ r. ⌜ r ≡ badOf side ⌝ }
 {
     if !side.rising {

@@ -151,7 +151,7 @@ module _ {done : List Bytes} {f : File} (line : Bytes) (g : Good done f) where
         no-nodes = λ h. nodes;
         no-rows = λ h. rows;
         no-model = λ h. model;
-        model-made = λ k. absurd (omega (arith, ap rank k));
+        model-made = λ k. absurd (omega arith);
         model = λ m k. absurd (no-such model k);
         no-claim = λ h. claim;
         claim-made = λ h. absurd (omega arith);
@@ -196,7 +196,7 @@ module _ {done : List Bytes} {f : File} (line : Bytes) (g : Good done f) where
         no-nodes = λ h. absurd (omega arith);
         no-rows = λ h. rows;
         no-model = λ h. model;
-        model-made = λ k. absurd (omega (arith, ap rank k));
+        model-made = λ k. absurd (omega arith);
         model = λ m k. absurd (no-such model k);
         no-claim = λ h. claim;
         claim-made = λ h. absurd (omega arith);
@@ -227,7 +227,7 @@ module _ {done : List Bytes} {f : File} (line : Bytes) (g : Good done f) where
         no-nodes = λ h. absurd (omega arith);
         no-rows = λ h. absurd (omega arith);
         no-model = λ h. model;
-        model-made = λ k. absurd (omega (arith, ap rank k));
+        model-made = λ k. absurd (omega arith);
         model = λ m k. absurd (no-such model k);
         no-claim = λ h. claim;
         claim-made = λ h. absurd (omega arith);
@@ -288,7 +288,7 @@ module _ {done : List Bytes} {f : File} (line : Bytes) (g : Good done f) where
         no-nodes = λ h. absurd (omega arith);
         no-rows = λ h. absurd (omega arith);
         no-model = λ h. absurd (omega arith);
-        model-made = λ k. absurd (omega (arith, ap rank k));
+        model-made = λ k. absurd (omega arith);
         model = g .model;
         no-claim = λ h. absurd (omega arith);
         claim-made = λ h. (record { line = at; left = left; right = right }, refl);
@@ -374,7 +374,7 @@ good-start =
       no-nodes = λ h. refl;
       no-rows = λ h. refl;
       no-model = λ h. refl;
-      model-made = λ k. absurd (omega (arith, ap rank k));
+      model-made = λ k. absurd (omega arith);
       model = λ m k. absurd (no-such refl k);
       no-claim = λ h. refl;
       claim-made = λ h. absurd (omega arith);

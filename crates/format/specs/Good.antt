@@ -9,7 +9,7 @@ use lib.ListN.{length, getD}
 use Rattle.equilibrium.specs.Meaning.{_∈_}
 use Rattle.elk.specs.Sequent.{Sequent}
 use Rattle.format.specs.Text.{Bytes, any, isName}
-use Rattle.format.specs.File.{Node, Row, Name, Model, Claim, Body, modelled, File, atomsGiven, addNode, addRow, sequentOf, decoded}
+use Rattle.format.specs.File.{Node, Row, Name, Model, Claim, Body, File, atomsGiven, addNode, addRow, sequentOf, decoded}
 use Rattle.format.specs.Line.{claimLine, lineOf}
 use Rattle.format.specs.Tables.{mostAtoms}
 use Rattle.format.specs.Tests.{first, rank, notEarlier, badSide, nodeTests, bodyTests, lastIs}
@@ -53,7 +53,7 @@ pub record Good (done : List Bytes) (f : File) : Type 0 where
   pub no-nodes : rank (f .stage) ≤ 0 → f .body .nodes ≡ []
   pub no-rows : rank (f .stage) ≤ 1 → f .body .rows ≡ []
   pub no-model : rank (f .stage) ≤ 2 → f .model ≡ none
-  pub model-made : f .stage ≡ modelled → (m : Model) × (f .model ≡ some m)
+  pub model-made : rank (f .stage) ≡ 3 → (m : Model) × (f .model ≡ some m)
   pub model : (m : Model) → f .model ≡ some m → GoodModel (f .body .atoms) (m .atoms)
   pub no-claim : rank (f .stage) ≤ 3 → f .claim ≡ none
   pub claim-made : 4 ≤ rank (f .stage) → (c : Claim) × (f .claim ≡ some c)

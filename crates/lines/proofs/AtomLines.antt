@@ -287,6 +287,8 @@ module _ {text line : Bytes} {start : ℕ} (at : NameAt text start line) (f : Fi
             };
         counts = ap countAtom (stored .counts) ∙ counts-atom (f .body) (omega (arith, atoms-held));
         stage = refl;
+        model = stored .model;
+        model-line = stored .model-line;
         claim = stored .claim;
         names-in = stand;
         names =
@@ -322,7 +324,7 @@ module _ (text : Bytes) (start : ℕ) (line : Bytes) (number : ℕ) (s : State) 
   pub atom-refused : (k ≡ 0 → ⊥) → r ≡ refusedBy s k number → AtomLined text start line number s r names names
   atom-refused h given t =
       line-refused k (withNames t names) given (λ f p done good stored.
-      step-atom f p line n (nameIn line) read ∙ number-given k _ p _ (tests-of t f done good stored) h)
+      step-atom f p line n (nameIn line) read ∙ number-given k _ (p .line) _ (tests-of t f done good stored) h)
 
   atom-passed : NameAt text start line → k ≡ 0 → r ≡ passedBy s (countAtom (s .counts)) (rank in-atoms) number
       → AtomLined text start line number s r names (namesWith names s start line)
@@ -332,7 +334,7 @@ module _ (text : Bytes) (start : ℕ) (line : Bytes) (number : ℕ) (s : State) 
             let passed = numbers .passed zero-k in
             steps-next r (withAtom f (nameStart p line) (nameIn line))
             (step-atom f p line n (nameIn line) read
-            ∙ ap (λ (o : Option ℕ). settled o p (withAtom f (nameStart p line) (nameIn line))) (none-given k _ (tests-of t f done good stored) zero-k))
+            ∙ ap (λ (o : Option ℕ). settled o (p .line) (withAtom f (nameStart p line) (nameIn line))) (none-given k _ (tests-of t f done good stored) zero-k))
             (ap (λ (x : Stepped). x .number) given)
             (subst (λ (x : Stepped). Stored text (withAtom f (nameStart p line) (nameIn line)) (x .state) (withNames t (namesWith names s start line)))
             (sym given)

@@ -13,7 +13,7 @@ use Rattle.parts.specs.Parts.{between, Fielded, FieldPart}
 use Rattle.parts.specs.Refusals.{badLine}
 use Rattle.keywords.specs.Words.{kindNamed, KindRead}
 use Rattle.keywords.specs.declared.Kind.{Kind}
-use Rattle.keywords.specs.declared.Kind.the-variants.{Atom, Formula, Row, Claim, Unknown}
+use Rattle.keywords.specs.declared.Kind.the-variants.{Atom, Formula, Row, Model, Claim, Unknown}
 use Rattle.parts.specs.declared.Fields.{Fields}
 use Rattle.state.specs.State.{refusedBy, Memory}
 use Rattle.state.specs.Lined.{Lined}
@@ -27,24 +27,26 @@ abbrev Named : Kind → Bytes → Type 0
 Named Atom field = field ≡ bytes "A"
 Named Formula field = field ≡ bytes "F"
 Named Row field = field ≡ bytes "N"
+Named Model field = field ≡ bytes "M"
 Named Claim field = field ≡ bytes "C"
-Named Unknown field = (is "A" field ≡ false) × (is "F" field ≡ false) × (is "N" field ≡ false) × (is "C" field ≡ false)
+Named Unknown field = (is "A" field ≡ false) × (is "F" field ≡ false) × (is "N" field ≡ false) × (is "M" field ≡ false) × (is "C" field ≡ false)
 
 named : (field : Bytes) → Named (kindNamed field) field
 unfolding kindNamed
-named field = cases (is "A" field) (is "F" field) (is "N" field) (is "C" field) refl refl refl refl
+named field = cases (is "A" field) (is "F" field) (is "N" field) (is "M" field) (is "C" field) refl refl refl refl refl
   where
-    cases : (a b c d : Bool) → is "A" field ≡ a → is "F" field ≡ b → is "N" field ≡ c → is "C" field ≡ d
-        → Named (cond a Atom (cond b Formula (cond c Row (cond d Claim Unknown)))) field
-    cases true b c d i j k l = same-list field (bytes "A") i
-    cases false true c d i j k l = same-list field (bytes "F") j
-    cases false false true d i j k l = same-list field (bytes "N") k
-    cases false false false true i j k l = same-list field (bytes "C") l
-    cases false false false false i j k l = (i, j, k, l)
+    cases : (a b c d e : Bool) → is "A" field ≡ a → is "F" field ≡ b → is "N" field ≡ c → is "M" field ≡ d → is "C" field ≡ e
+        → Named (cond a Atom (cond b Formula (cond c Row (cond d Model (cond e Claim Unknown))))) field
+    cases true b c d e i j k l m = same-list field (bytes "A") i
+    cases false true c d e i j k l m = same-list field (bytes "F") j
+    cases false false true d e i j k l m = same-list field (bytes "N") k
+    cases false false false true e i j k l m = same-list field (bytes "M") l
+    cases false false false false true i j k l m = same-list field (bytes "C") m
+    cases false false false false false i j k l m = (i, j, k, l, m)
 
 unknown-fields : (fs : List Bytes) → Named Unknown (getD fs 0 []) → ofKind fs ≡ none
 unknown-fields [] e = refl
-unknown-fields (kind ∷ fs) e = simp (e .0, e .1, e .2, e .3)
+unknown-fields (kind ∷ fs) e = simp (e .0, e .1, e .2, e .3, e .4)
 
 unknown-line : (line : Bytes) → Named Unknown (getD (fieldsOf line) 0 []) → lineOf line ≡ none
 unfolding lineOf

@@ -287,7 +287,7 @@ module _ (line : Bytes) (number : ℕ) (s : State) (formulas notes : List ℕ) (
         numbers .tests ∙ cc
 
     early : (k ≡ 0 → ⊥) → step f p line ≡ refused k (p .line)
-    early h = step-formula f p line n m (read .read) ∙ number-given k _ p (withNode f m) (numbered-early out over ahead again k tests-here h) h
+    early h = step-formula f p line n m (read .read) ∙ number-given k _ (p .line) (withNode f m) (numbered-early out over ahead again k tests-here h) h
 
     module _ (z : k ≡ 0) (key : NodeRecord) (is-key : key ≡ narrowed node) where
       late : (ahead ≡ false) × (over ≡ false) × (first (formulaTests f n m) ≡ cond again (some 8) none)
@@ -298,9 +298,9 @@ module _ (line : Bytes) (number : ℕ) (s : State) (formulas notes : List ℕ) (
 
       -- the number of the line is the one that the answer stands for
       entry-tells : {formulas′ notes′ : List ℕ} {entry : Entry} → FormulaEntered formulas notes (s .counts .formulas) key formulas′ notes′ entry
-          → step f p line ≡ settled (entryRefusal entry) p (withNode f m)
+          → step f p line ≡ settled (entryRefusal entry) (p .line) (withNode f m)
       entry-tells {entry} entered =
-          step-formula f p line n m (read .read) ∙ ap (λ (o : Option ℕ). settled o p (withNode f m)) (late .2 ∙ sym tells)
+          step-formula f p line n m (read .read) ∙ ap (λ (o : Option ℕ). settled o (p .line) (withNode f m)) (late .2 ∙ sym tells)
         where
           tells : entryRefusal entry ≡ cond again (some 8) none
           tells =
@@ -338,6 +338,8 @@ module _ (line : Bytes) (number : ℕ) (s : State) (formulas notes : List ℕ) (
                   };
               counts = ap countFormula (stored .counts) ∙ counts-node (f .body) m room;
               stage = refl;
+              model = stored .model;
+              model-line = stored .model-line;
               claim = stored .claim;
               names-in = stored .names-in;
               names = stored .names;
@@ -357,8 +359,8 @@ module _ (line : Bytes) (number : ℕ) (s : State) (formulas notes : List ℕ) (
   module _ (z : k ≡ 0) {key : NodeRecord} (is-key : key ≡ narrowed node) {formulas′ notes′ : List ℕ} {entry : Entry}
       (entered : FormulaEntered formulas notes (s .counts .formulas) key formulas′ notes′ entry) where
     told : {text : Bytes} {f : File} {done : List Bytes} (t : Memory) (p : Place) → Good done f → Stored text f s (withFormulas t formulas notes)
-        → {o : Option ℕ} → entryRefusal entry ≡ o → step f p line ≡ settled o p (withNode f m)
-    told {f} t p good stored e = entry-tells t p good stored z key is-key entered ∙ ap (λ (o : Option ℕ). settled o p (withNode f m)) e
+        → {o : Option ℕ} → entryRefusal entry ≡ o → step f p line ≡ settled o (p .line) (withNode f m)
+    told {f} t p good stored e = entry-tells t p good stored z key is-key entered ∙ ap (λ (o : Option ℕ). settled o (p .line) (withNode f m)) e
 
     pub formula-held : {r : Stepped} (i : ℕ) → entry ≡ Entry.Held i → r ≡ refusedBy s 8 number → FormulaLined line number s r formulas notes formulas′ notes′
     formula-held {r} i is-held e text start t =

@@ -4,5 +4,6 @@ mod AtomLines
 mod FormulaFields
 mod FormulaLines
 mod RowLines
+mod ModelLines
 mod ClaimLines
 mod Dispatch

@@ -17,6 +17,7 @@ use Rattle.format.specs.Line.{
   atomLine,
   formulaLine,
   rowLine,
+  modelLine,
   claimLine,
   nodeOf,
   ruleOf,
@@ -25,6 +26,7 @@ use Rattle.format.specs.Line.{
   atomFields,
   formulaFields,
   rowFields,
+  modelFields,
   claimFields,
   ofKind,
   lineOf,
@@ -63,6 +65,9 @@ miscounted count kind fields o h = ap (λ (b : Bool). onlyIf b o) (ne-eqb (lengt
 -- what the fields after the kind write, each read or badly written
 abbrev pub atomWritten : Bytes → Option ℕ → Option Line
 atomWritten name number = (λ n. atomLine n name) <$> number
+
+abbrev pub modelWritten : Option (List ℕ) → Option Line
+modelWritten atoms = (λ as. modelLine as) <$> atoms
 
 abbrev pub claimWritten : Option (List ℕ) → Option (List ℕ) → Option Line
 claimWritten left right = (λ l r. claimLine l r) <$> left <*> right
@@ -104,6 +109,16 @@ row-count : (fs : List Bytes) → getD fs 0 [] ≡ bytes "N" → (length fs ≡ 
 unfolding sameList rowFields
 row-count [] e h = absurd (not-empty e)
 row-count (kind ∷ fs) e h = ap (λ (k : Bytes). ofKind (k ∷ fs)) e ∙ miscounted 6 kind fs _ h
+
+model-fields : (fs : List Bytes) → getD fs 0 [] ≡ bytes "M" → length fs ≡ 2 → ofKind fs ≡ modelWritten (listOf (getD fs 1 []))
+unfolding sameList modelFields
+model-fields [] e h = absurd (not-empty e)
+model-fields (kind ∷ fs) e h = ap (λ (k : Bytes). ofKind (k ∷ fs)) e ∙ counted 1 kind fs _ h
+
+model-count : (fs : List Bytes) → getD fs 0 [] ≡ bytes "M" → (length fs ≡ 2 → ⊥) → ofKind fs ≡ none
+unfolding sameList modelFields
+model-count [] e h = absurd (not-empty e)
+model-count (kind ∷ fs) e h = ap (λ (k : Bytes). ofKind (k ∷ fs)) e ∙ miscounted 1 kind fs _ h
 
 claim-fields : (fs : List Bytes) → getD fs 0 [] ≡ bytes "C" → length fs ≡ 3 → ofKind fs ≡ claimWritten (listOf (getD fs 1 [])) (listOf (getD fs 2 []))
 unfolding sameList claimFields
@@ -147,6 +162,14 @@ module _ (line : Bytes) where
   pub line-no-row : OfKind "N" line → (length (fieldsOf line) ≡ 7 → ⊥) → lineOf line ≡ none
   unfolding lineOf
   line-no-row = row-count (fieldsOf line)
+
+  pub line-model : OfKind "M" line → length (fieldsOf line) ≡ 2 → lineOf line ≡ modelWritten (listOf (getD (fieldsOf line) 1 []))
+  unfolding lineOf
+  line-model = model-fields (fieldsOf line)
+
+  pub line-no-model : OfKind "M" line → (length (fieldsOf line) ≡ 2 → ⊥) → lineOf line ≡ none
+  unfolding lineOf
+  line-no-model = model-count (fieldsOf line)
 
   pub line-claim : OfKind "C" line → length (fieldsOf line) ≡ 3
       → lineOf line ≡ claimWritten (listOf (getD (fieldsOf line) 1 [])) (listOf (getD (fieldsOf line) 2 []))
@@ -192,9 +215,9 @@ list-laid {xs} was answer stored room =
 
 -- ---- the number that a line earns
 
-pub number-given : (k : ℕ) (o : Option ℕ) (p : Place) (f : File) → numbered k ≡ o → (k ≡ 0 → ⊥) → settled o p f ≡ refused k (p .line)
-number-given zero o p f e n = absurd (n refl)
-number-given (suc k) o p f e n = ap (λ (x : Option ℕ). settled x p f) (sym e)
+pub number-given : (k : ℕ) (o : Option ℕ) (line : ℕ) (f : File) → numbered k ≡ o → (k ≡ 0 → ⊥) → settled o line f ≡ refused k line
+number-given zero o line f e n = absurd (n refl)
+number-given (suc k) o line f e n = ap (λ (x : Option ℕ). settled x line f) (sym e)
 
 pub none-given : (k : ℕ) (o : Option ℕ) → numbered k ≡ o → k ≡ 0 → o ≡ none
 none-given zero o e z = sym e

@@ -205,7 +205,7 @@ module _ (text line : Bytes) (start number : ℕ) (s : State) {n : ℕ} {q : Row
   row-misplaced t other given =
       line-refused 4 t given (λ f p done good stored.
       step-row f p line n q well
-      ∙ ap (λ (o : Option ℕ). settled o p (withRow f q))
+      ∙ ap (λ (o : Option ℕ). settled o (p .line) (withRow f q))
       (first-applies (4 when outOfOrder (f .stage) in-rows (length (f .body .rows)) n) (bodyTests (f .body) q) (sym (order-asked stored) ∙ other)))
 
   module _ (next-one : otherIn (row .number) s ≡ false) {d : Draft} (drafted : Drafted q d l r) {formulas notes rows left right : List ℕ} {k : ℕ}
@@ -222,7 +222,7 @@ module _ (text line : Bytes) (start number : ℕ) (s : State) {n : ℕ} {q : Row
     row-refused t some-number given =
         line-refused k (withRows t formulas notes rows left right) given (λ f p done good stored.
         step-row f p line n q well
-        ∙ ap (λ (o : Option ℕ). settled o p (withRow f q)) (sym (row-earns t good stored) ∙ numbered-some k some-number))
+        ∙ ap (λ (o : Option ℕ). settled o (p .line) (withRow f q)) (sym (row-earns t good stored) ∙ numbered-some k some-number))
 
     -- a row that passes
     module _ (passed : k ≡ 0) {rows′ left′ right′ : List ℕ} (w : RowStored d (s .counts) l r rows left right rows′ left′ right′)
@@ -231,7 +231,7 @@ module _ (text line : Bytes) (start number : ℕ) (s : State) {n : ℕ} {q : Row
       steps : step f p line ≡ next (withRow f q)
       steps =
           step-row f p line n q well
-          ∙ ap (λ (o : Option ℕ). settled o p (withRow f q)) (sym (row-earns t good stored) ∙ numbered-none k .1 passed)
+          ∙ ap (λ (o : Option ℕ). settled o (p .line) (withRow f q)) (sym (row-earns t good stored) ∙ numbered-none k .1 passed)
 
       tests : first (bodyTests (f .body) q) ≡ none
       tests = sym (numbers .given (f .body) q (ground stored good) drafted) ∙ numbered-none k .1 passed
@@ -341,6 +341,8 @@ module _ (text line : Bytes) (start number : ℕ) (s : State) {n : ℕ} {q : Row
                 };
             counts = e ∙ counts-same;
             stage = refl;
+            model = stored .model;
+            model-line = stored .model-line;
             claim = stored .claim;
             names-in = stored .names-in;
             names = stored .names;

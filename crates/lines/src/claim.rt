@@ -4,15 +4,17 @@ ghost use Rattle.format.specs.Tests.{first};
 ghost use Rattle.early.specs.Early.{numbered};
 ghost use Rattle.parts.specs.Parts.{Fielded};
 ghost use Rattle.state.specs.Lined.{OfKind};
-ghost use Rattle.lines.specs.ClaimLines.{claimOf, ClaimSettled, ClaimLined};
+ghost use Rattle.lines.specs.ClaimLines.{claimOf, modelReport, ClaimSettled, ClaimLined};
 use counts::limits::MOST_ON_SIDE;
 use early::bad_sides;
 use early::past;
+use models::model_number;
 use parts::Fields;
 use parts::field;
 use parts::refusals::BAD_LINE;
 use rows::last::last_is;
 use state::CLAIMED;
+use state::MODELLED;
 use state::State;
 use state::Stepped;
 use state::out_of_turn;
@@ -40,6 +42,16 @@ fn claim_number(antecedent: Listed, succedent: Listed, state: State) -> u32
     0
 }
 
+// The line that a refusal of the model belongs to: the M line, or the claim's own if there is none.
+fn model_report(state: State, number: u32) -> u32
+    ensures { λ r. ⌜ r ≡ modelReport state number ⌝ }
+{
+    if state.stage == MODELLED {
+        return state.model_line;
+    }
+    number
+}
+
 // A claim that is well written, by the tables that its lists were read into.
 fn settle_claim<'a>(
     antecedent: Listed,
@@ -47,38 +59,31 @@ fn settle_claim<'a>(
     number: u32,
     l: &[u16],
     r: &[u16],
+    formulas: &[u16],
     rows: &[u16],
     left: &'a [u16],
     right: &'a [u16],
     state: State,
 ) -> Stepped
     ensures { λ s. ⌜ ClaimSettled antecedent succedent number (now (l .entry)) (now (r .entry))
-        (now (rows .entry)) (now (left .entry)) (now (right .entry)) state s ⌝ }
+        (now (formulas .entry)) (now (rows .entry)) (now (left .entry)) (now (right .entry)) state s ⌝ }
 {
     let refusal = claim_number(antecedent, succedent, state);
     if refusal != 0 {
         return state.refused(refusal, number);
     }
     let counts = state.counts;
-    if !last_is(
-        rows,
-        left,
-        right,
-        counts.rows,
-        front(l, antecedent.count),
-        front(r, succedent.count),
-    ) {
+    let left_side = front(l, antecedent.count);
+    let right_side = front(r, succedent.count);
+    if !last_is(rows, left, right, counts.rows, left_side, right_side) {
         return state.refused(12, number);
     }
-    Stepped {
-        number: 0,
-        line: number,
-        state: State {
-            counts,
-            stage: CLAIMED,
-            claim: number,
-        },
+    let given = state.stage == MODELLED;
+    let unconfirmed = model_number(formulas, left_side, right_side, given, state.model);
+    if unconfirmed != 0 {
+        return state.refused(unconfirmed, model_report(state, number));
     }
+    state.claimed(number)
 }
 
 // A C line, taken into its fields; it is line `number`.
@@ -86,13 +91,15 @@ pub(crate) fn claim_line<'a>(
     line: &[u8],
     number: u32,
     fields: Fields,
+    formulas: &[u16],
     rows: &[u16],
     left: &'a [u16],
     right: &'a [u16],
     state: State,
 ) -> Stepped
     requires { ⌜ (Fielded (now line) fields) × OfKind "C" (now line) ⌝ }
-    ensures { λ s. ⌜ ClaimLined (now (line .entry)) number (now (rows .entry)) (now (left .entry)) (now (right .entry)) state s ⌝ }
+    ensures { λ s. ⌜ ClaimLined (now (line .entry)) number (now (formulas .entry)) (now (rows .entry)) (now (left .entry))
+        (now (right .entry)) state s ⌝ }
 {
     if fields.count != 3 {
         return state.refused(BAD_LINE, number);
@@ -113,6 +120,7 @@ pub(crate) fn claim_line<'a>(
         number,
         &l,
         &r,
+        formulas,
         rows,
         left,
         right,

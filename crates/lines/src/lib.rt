@@ -3,6 +3,7 @@
 mod atom;
 mod claim;
 mod formula;
+mod model;
 mod row;
 
 ghost use Rattle.state.specs.State.{tables};
@@ -12,6 +13,7 @@ use claim::claim_line;
 use formula::formula_line;
 use keywords::Kind;
 use keywords::line_kind;
+use model::model_line;
 use parts::field;
 use parts::read_fields;
 use parts::refusals::BAD_LINE;
@@ -60,7 +62,8 @@ pub fn step_line(
             right,
             state,
         ),
-        Kind::Claim => claim_line(line, number, fields, rows, left, right, state),
+        Kind::Model => model_line(line, number, fields, state),
+        Kind::Claim => claim_line(line, number, fields, formulas, rows, left, right, state),
         Kind::Unknown => state.refused(BAD_LINE, number),
     }
 }

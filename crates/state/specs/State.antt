@@ -2,7 +2,7 @@
 use Prim.Native.Nat.{ℕ, _≤_, _*_}
 use mathlib.Core.Path.{_≡_}
 use mathlib.Core.Bool.{Bool, not, _&&_, _||_}
-use mathlib.Core.List.{List}
+use mathlib.Core.List.{List, []}
 use mathlib.Core.Option.{Option, none, some}
 use lib.Dec.{eqb, ltb}
 use lib.ListN.{length}
@@ -12,7 +12,7 @@ use Rattle.format.specs.File.{Name, Model, Claim, in-atoms, modelled, claimed, 
 use Rattle.format.specs.Tables.{padded, joinAll, nameRecord, nodeRecord, rowRecords, leftPool, rightPool, mostFormulas, least}
 use Rattle.format.specs.Tests.{rank}
 use Rattle.format.specs.Judged.{Outcome, next, refused}
-use Rattle.atomset.specs.AtomSet.{setOf}
+use Rattle.atomset.specs.AtomSet.{members}
 use Rattle.counts.specs.Counts.{countsOf, noCounts}
 use Rattle.known.specs.Known.{Known}
 use Rattle.tables.specs.Names.{StandsIn}
@@ -62,10 +62,10 @@ outOfTurn stage coming = not (ltb stage coming || (eqb stage coming && ltb comin
 unfoldable pub notNext : ℕ → ℕ → ℕ → ℕ → Bool
 notNext stage coming held number = outOfTurn stage coming || not (eqb number held)
 
--- the atoms of the M line as one word, and its line; the empty set and 0 if there is none
-abbrev pub modelWord : Option Model → ℕ
-modelWord none = 0
-modelWord (some m) = setOf (m .atoms)
+-- the atoms of the M line, and its line; no atom and 0 if there is none
+abbrev pub modelAtoms : Option Model → List ℕ
+modelAtoms none = []
+modelAtoms (some m) = m .atoms
 
 abbrev pub modelLine : Option Model → ℕ
 modelLine none = 0
@@ -114,7 +114,7 @@ pub record Stored (text : Bytes) (f : File) (s : State) (t : Memory) : Type 0 wh
   pub full : Full t
   pub counts : s .counts ≡ countsOf (f .body)
   pub stage : s .stage ≡ rank (f .stage)
-  pub model : s .model ≡ modelWord (f .model)
+  pub model : members (s .model) ≡ modelAtoms (f .model)
   pub model-line : s .«model_line» ≡ modelLine (f .model)
   pub claim : s .claim ≡ claimLine (f .claim)
   pub names-in : (n : Name) → n ∈ f .names → StandsIn text n
