@@ -224,8 +224,8 @@ module _ (antecedent succedent : Listed) (number : ℕ) (l r formulas rows left 
       confirms : {text : Bytes} {f : File} (t : Memory) {xs ys : List ℕ} {done : List Bytes} → Stored text f s (lent t) → Good done f
           → Laid xs antecedent l → Laid ys succedent r → numbered n ≡ first (confirmationTests f xs ys)
       confirms t {xs} {ys} stored good x y =
-          let sides = subst₂ (λ (as cs : List ℕ). ModelNumbered formulas as cs (eqb (s .stage) 3) (s .model) n)
-              (left-laid stored x y k e zero-k good) (right-laid stored x y k e zero-k good) model in
+          let sides = subst₂ (λ (xs ys : List ℕ). ModelNumbered formulas xs ys (eqb (s .stage) 3) (s .model) n)
+          (left-laid stored x y k e zero-k good) (right-laid stored x y k e zero-k good) model in
           model-earns stored good xs ys (through t stored good x y) n sides
 
       pub settled-unconfirmed : (n ≡ 0 → ⊥) → (line : ℕ) → line ≡ modelReport s number → stepped ≡ refusedBy s n line → Settles

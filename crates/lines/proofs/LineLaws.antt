@@ -67,7 +67,7 @@ abbrev pub atomWritten : Bytes → Option ℕ → Option Line
 atomWritten name number = (λ n. atomLine n name) <$> number
 
 abbrev pub modelWritten : Option (List ℕ) → Option Line
-modelWritten atoms = (λ as. modelLine as) <$> atoms
+modelWritten atoms = (λ ps. modelLine ps) <$> atoms
 
 abbrev pub claimWritten : Option (List ℕ) → Option (List ℕ) → Option Line
 claimWritten left right = (λ l r. claimLine l r) <$> left <*> right
