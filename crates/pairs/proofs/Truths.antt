@@ -197,3 +197,17 @@ module _ {b : Body} {table : List ℕ} (g : Formulas b table) where
       (λ i l k before as-many right.
       ap (λ (x : Bool). hereBy h x before (recordFrom (nodeAt table i))) (known i l k)
       ∙ each-node (λ r A. hereBy h (holdsIn t t A) before r ≡ holdsIn h t A) i k (node-here b h t i before as-many right))
+
+  -- the table of notes says so
+  pub notes-there : (t n : ℕ) (before : List ℕ) {after : List ℕ} → after ≡ noted (truthsThere table t n) before → Notes b n t t after
+  notes-there t n before e i l k =
+      ap (λ (notes : List ℕ). notedAt notes i) e
+      ∙ noted-read (truthsThere table t n) before i (rw length-truths l)
+      ∙ there-right t n i l k
+
+  pub notes-here : (h t n : ℕ) (there before : List ℕ) {after : List ℕ} → Notes b n t t there → after ≡ noted (truthsHere table h (notedAt there) n) before
+      → Notes b n h t after
+  notes-here h t n there before known e i l k =
+      ap (λ (notes : List ℕ). notedAt notes i) e
+      ∙ noted-read (truthsHere table h (notedAt there) n) before i (rw length-truths l)
+      ∙ here-right h t (notedAt there) n known i l k

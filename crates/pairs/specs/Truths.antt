@@ -22,19 +22,21 @@ unfoldable pub byWord : ℕ → Bool → Bool → Bool → Bool → Bool → Boo
 byWord word atom neg conj disj imp =
     cond (eqb word 1) atom (cond (eqb word 2) neg (cond (eqb word 3) conj (cond (eqb word 4) disj (cond (eqb word 5) imp false))))
 
--- the formula of a record in the pair (t,t), by the truths of the formulas before it
-abbrev pub thereBy : ℕ → List Bool → NodeRecord → Bool
-thereBy t before n =
+-- the formula of a record, by the truths of those before it: an atom holds if the set has it, a negation is as true as `neg` says, and
+-- an implication holds only where `allowed`
+abbrev pub judgedBy : ℕ → Bool → Bool → List Bool → NodeRecord → Bool
+judgedBy set neg allowed before n =
     let A = truthOf before (n .first) in
     let B = truthOf before (n .second) in
-    byWord (n .word) (has t (n .first)) (not A) (A && B) (A || B) (not A || B)
+    byWord (n .word) (has set (n .first)) neg (A && B) (A || B) (allowed && (not A || B))
 
--- the same in a pair (h,t), where `there` is the formula's truth in (t,t)
+-- in the pair (t,t), where a negation holds if its operand fails
+abbrev pub thereBy : ℕ → List Bool → NodeRecord → Bool
+thereBy t before n = judgedBy t (not (truthOf before (n .first))) true before n
+
+-- in a pair (h,t), where negations and implications look at (t,t), too: `there` is the formula's truth in it
 abbrev pub hereBy : ℕ → Bool → List Bool → NodeRecord → Bool
-hereBy h there before n =
-    let A = truthOf before (n .first) in
-    let B = truthOf before (n .second) in
-    byWord (n .word) (has h (n .first)) there (A && B) (A || B) (there && (not A || B))
+hereBy h there before n = judgedBy h there there before n
 
 -- the truths of the first n formulas, each by its number, those before it and its record
 unfoldable pub truths : (ℕ → List Bool → NodeRecord → Bool) → List ℕ → ℕ → List Bool
