@@ -11,18 +11,18 @@ use Rattle.pairs.specs.Pairs.{holdsIn}
 
 -- A test says whether a statement is so. Tests joined say it of the statements joined.
 
-abbrev Says : Bool → Type 0 → Type 0
+abbrev pub Says : Bool → Type 0 → Type 0
 Says b X = (b ≡ true) ↔ X
 
-says-not : {X : Type 0} (a : Bool) → Says a X → Says (not a) (X → ⊥)
+pub says-not : {X : Type 0} (a : Bool) → Says a X → Says (not a) (X → ⊥)
 says-not true s = (λ e. absurd (false≢true e), λ n. absurd (n (s .0 refl)))
 says-not false s = (λ e x. false≢true (s .1 x), λ n. refl)
 
-says-and : {X Y : Type 0} (a b : Bool) → Says a X → Says b Y → Says (a && b) (X × Y)
+pub says-and : {X Y : Type 0} (a b : Bool) → Says a X → Says b Y → Says (a && b) (X × Y)
 says-and true b s t = (λ e. (s .0 refl, t .0 e), λ h. t .1 (h .1))
 says-and false b s t = (λ e. absurd (false≢true e), λ h. s .1 (h .0))
 
-says-or : {X Y : Type 0} (a b : Bool) → Says a X → Says b Y → Says (a || b) (X ⊎ Y)
+pub says-or : {X Y : Type 0} (a b : Bool) → Says a X → Says b Y → Says (a || b) (X ⊎ Y)
 says-or true b s t = (λ e. inl (s .0 refl), λ h. refl)
 says-or false b s t = (λ e. inr (t .0 e), λ h. ⊎-elim (λ x. absurd (false≢true (s .1 x))) (t .1) h)
 
