@@ -1,0 +1,3 @@
+-- The laws of the model's tests.
+pub mod Tested
+pub mod Deciding
