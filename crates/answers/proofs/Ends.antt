@@ -11,7 +11,7 @@ use lib.ListN.{length, getD, drop, drop-of-length-le}
 use lib.Seq.{drop-cons}
 use borrow.Author.Tests.{ltb-true, ltb-false, eqb-true, eqb-false}
 use Rattle.format.specs.Text.{Bytes, partsAt, lineFeed}
-use Rattle.format.specs.File.{Claim, Stage, in-atoms, in-formulas, in-rows, claimed, noFile}
+use Rattle.format.specs.File.{Claim, Stage, in-atoms, in-formulas, in-rows, modelled, claimed, noFile}
 use Rattle.format.specs.Tests.{rank}
 use Rattle.format.specs.Judged.{top, accepted, turnedDown, orNoClaim, runFrom, answerFrom}
 use Rattle.format.proofs.Stepping.{answer-stub, run-end, answer-end}
@@ -61,14 +61,15 @@ module _ (text : Bytes) (ran : Ran) (t : Memory) (runs : Runs text ran t) where
             number = λ e. omega (arith, e);
             line =
                 whole ∙ ap (λ (o : Option Claim). orNoClaim o (ran .line))
-                (at-end .good .no-claim (omega (arith, n, at-end .stored .stage, below-four (at-end .file .stage))));
+                (at-end .good .no-claim (omega (arith, n, at-end .stored .stage, below-five (at-end .file .stage))));
           }
         where
-          below-four : (s : Stage) → rank s ≤ 3
-          below-four in-atoms = omega arith
-          below-four in-formulas = omega arith
-          below-four in-rows = omega arith
-          below-four claimed = omega arith
+          below-five : (s : Stage) → rank s ≤ 4
+          below-five in-atoms = omega arith
+          below-five in-formulas = omega arith
+          below-five in-rows = omega arith
+          below-five modelled = omega arith
+          below-five claimed = omega arith
 
       -- the claim was made, and the file is stored
       ends-claimed : ran .state .stage ≡ rank claimed → Accepts text (ran .state) t (answer 0 (ran .state .claim))

@@ -17,7 +17,7 @@ use Rattle.format.specs.Tables.{Lent, least, tooShort, padded, Contents, encode
 use Rattle.format.specs.Judged.{Ruling, accepted, turnedDown, numberIn, lineIn, top, beginning, answerFrom, wholeTests, orWhole, judged, heldBy, contents}
 use Rattle.format.proofs.Booleans.{or-false}
 use Rattle.format.proofs.Stepping.{first-applies, first-passes}
-use Rattle.format.proofs.Accepted.{accepted-holds}
+use Rattle.format.proofs.Accepted.{accepted-holds, accepted-shown}
 use Rattle.counts.specs.Counts.{noCounts}
 use Rattle.counts.specs.declared.Counts.{Counts}
 use Rattle.state.specs.State.{Full, Memory}
@@ -76,6 +76,7 @@ module _ (text : Bytes) (lent : Lent) where
           line = sym (ap lineIn e);
           tables = cleared ∙ nothing-held lent ∙ ap (filled lent) (sym (contents-by (turnedDown (answer .number) (answer .line)) e));
           claim-holds = λ z. absurd (refusal z);
+          claim-shown = λ z. absurd (refusal z);
         }
 
     -- the same, with no counts
@@ -113,6 +114,7 @@ module _ (text : Bytes) (lent : Lent) where
           line = sym (ap lineIn whole);
           tables = holds ∙ ap₂ filled same (sym held);
           claim-holds = λ z bad. accepted-holds lent text (answer .line) whole bad;
+          claim-shown = λ z. accepted-shown lent text (answer .line) whole;
         }
       where
         whole : judged lent text ≡ accepted (answer .line)

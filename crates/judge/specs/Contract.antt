@@ -5,7 +5,7 @@ use Rattle.equilibrium.specs.Meaning.{_∈_}
 use Rattle.format.specs.File.{Name, File}
 use Rattle.format.specs.Tables.{Contents, Lent, least, encode}
 use Rattle.format.specs.Good.{GoodBody, GoodNames}
-use Rattle.format.specs.Judged.{accepted, numberIn, lineIn, next, beginning, judged, contents, ClaimFails}
+use Rattle.format.specs.Judged.{accepted, numberIn, lineIn, next, beginning, judged, contents, ClaimFails, ClaimShown}
 use Rattle.counts.specs.Counts.{countsOf, noCounts}
 use Rattle.counts.specs.declared.Counts.{Counts}
 use Rattle.tables.specs.Names.{StandsIn}
@@ -14,13 +14,15 @@ use Rattle.answers.specs.Answers.{filled}
 use Rattle.answers.specs.declared.Answer.{Answer}
 use Rattle.judge.specs.declared.Judged.{Judged}
 
--- Number and line are those of the definition, the tables at exit hold exactly the accepted file and zeros after it (or zeros
--- alone), and a text that is accepted makes no claim that fails.
+-- Number and line are those of the definition, and the tables at exit hold exactly the accepted file and zeros after it (or zeros
+-- alone). A text that is accepted makes no claim that fails, and its claim is confirmed by the model on its M line or shows a
+-- contradiction.
 pub record Judges (text : Bytes) (lent : Lent) (t : Contents) (answer : Answer) : Type 0 where
   pub number : answer .number ≡ numberIn (judged lent text)
   pub line : answer .line ≡ lineIn (judged lent text)
   pub tables : t ≡ filled lent (contents lent text)
   pub claim-holds : answer .number ≡ 0 → ClaimFails text → ⊥
+  pub claim-shown : answer .number ≡ 0 → ClaimShown text
 
 -- the file of an accepted text, with its counts, in tables that hold it and zeros after it
 pub record Filed (text : Bytes) (t : Contents) (counts : Counts) : Type 0 where
@@ -44,3 +46,4 @@ pub record Checks (text : Bytes) (answer : Answer) : Type 0 where
   pub number : answer .number ≡ numberIn (judged least text)
   pub line : answer .line ≡ lineIn (judged least text)
   pub claim-holds : answer .number ≡ 0 → ClaimFails text → ⊥
+  pub claim-shown : answer .number ≡ 0 → ClaimShown text

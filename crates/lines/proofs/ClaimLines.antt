@@ -216,9 +216,9 @@ module _ (antecedent succedent : Listed) (number : ℕ) (l r formulas rows left 
 
     module _ (agrees : b ≡ true) (n : ℕ)
         (model : ModelNumbered formulas (take (antecedent .count) l) (take (succedent .count) r) (eqb (s .stage) 3) (s .model) n) where
-      through : {text : Bytes} {f : File} (t : Memory) {xs ys : List ℕ} {done : List Bytes} → Stored text f s (lent t) → Good done f
+      unrefused : {text : Bytes} {f : File} (t : Memory) {xs ys : List ℕ} {done : List Bytes} → Stored text f s (lent t) → Good done f
           → Laid xs antecedent l → Laid ys succedent r → first (claimTests f xs ys) ≡ none
-      through t stored good x y = told t stored good x y ∙ ap (λ (d : Bool). cond (not d) (some 12) none) agrees
+      unrefused t stored good x y = told t stored good x y ∙ ap (λ (d : Bool). cond (not d) (some 12) none) agrees
 
       -- what the claim comes to by the number of its model
       confirms : {text : Bytes} {f : File} (t : Memory) {xs ys : List ℕ} {done : List Bytes} → Stored text f s (lent t) → Good done f
@@ -226,7 +226,7 @@ module _ (antecedent succedent : Listed) (number : ℕ) (l r formulas rows left 
       confirms t {xs} {ys} stored good x y =
           let sides = subst₂ (λ (xs ys : List ℕ). ModelNumbered formulas xs ys (eqb (s .stage) 3) (s .model) n)
           (left-laid stored x y k e zero-k good) (right-laid stored x y k e zero-k good) model in
-          model-earns stored good xs ys (through t stored good x y) n sides
+          model-earns stored good xs ys (unrefused t stored good x y) n sides
 
       pub settled-unconfirmed : (n ≡ 0 → ⊥) → (line : ℕ) → line ≡ modelReport s number → stepped ≡ refusedBy s n line → Settles
       settled-unconfirmed h line is-line given =
@@ -234,7 +234,7 @@ module _ (antecedent succedent : Listed) (number : ℕ) (l r formulas rows left 
             lined = λ text bytes start xs ys t read x y.
                 record {
                   steps = λ f p done good stored size placed at.
-                      let passed = through t stored good x y in
+                      let passed = unrefused t stored good x y in
                       let on = is-line ∙ ap (modelReport s) (sym at) ∙ reported stored good xs ys passed (p .line) in
                       steps-refused text (lent t) n line
                       (step-claim f p bytes xs ys read passed
@@ -252,10 +252,10 @@ module _ (antecedent succedent : Listed) (number : ℕ) (l r formulas rows left 
                 record {
                   steps = λ f p done good stored size placed at.
                       let claim = claimAt (p .line) xs ys in
-                      let unrefused = none-given n _ (confirms t stored good x y) zero-n in
+                      let confirmed = none-given n _ (confirms t stored good x y) zero-n in
                       steps-next stepped (withClaim f claim)
-                      (step-claim f p line xs ys read (through t stored good x y)
-                      ∙ ap (λ (o : Option ℕ). settled o (reportedOn (f .model) (p .line)) (withClaim f claim)) unrefused)
+                      (step-claim f p line xs ys read (unrefused t stored good x y)
+                      ∙ ap (λ (o : Option ℕ). settled o (reportedOn (f .model) (p .line)) (withClaim f claim)) confirmed)
                       (ap (λ (z : Stepped). z .number) given)
                       (subst (λ (z : Stepped). Stored text (withClaim f claim) (z .state) (lent t)) (sym given)
                       (claim-stored stored number claim (sym at)));

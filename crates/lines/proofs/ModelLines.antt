@@ -2,7 +2,7 @@
 use Prim.Native.Nat.{ℕ, _≤_, _<_}
 use native.Mathlib.Omega.{arith}
 use mathlib.Core.Path.{_≡_, refl, sym, ap, ap₂, subst, _∙_}
-use mathlib.Core.Bool.{Bool, true, false, not, _&&_, true≢false}
+use mathlib.Core.Bool.{Bool, true, false, not, _&&_, _||_, true≢false}
 use mathlib.Core.List.{List, [], _∷_, List·Memᴰ·head, List·Memᴰ·tail, List·Memᴰ·not-nil, List·Memᴰ·cases-cons}
 use mathlib.Core.Logic.{⊎-elim}
 use mathlib.Core.Option.{Option, none, some}
@@ -54,11 +54,11 @@ rises (x ∷ y ∷ ys) e = let both = booleans.and-true (ltb x y) _ e in (ltb-tr
 -- an entry that is found is one of the list's
 entered-in : (p : ℕ) (xs : List ℕ) → any (entered p) xs ≡ true → p ∈ xs
 entered-in p [] e = absurd (true≢false (sym e))
-entered-in p (x ∷ xs) e = cases (entered p x) refl e
+entered-in p (x ∷ xs) e = cases (entered p x) refl e (entered-in p xs)
   where
-    cases : (b : Bool) → entered p x ≡ b → (b || any (entered p) xs) ≡ true → p ∈ x ∷ xs
-    cases true k h = List·Memᴰ·head (eqb-true p x (booleans.and-true (eqb p x) (ltb x 64) k .0))
-    cases false k h = List·Memᴰ·tail (entered-in p xs h)
+    cases : (b : Bool) → entered p x ≡ b → (b || any (entered p) xs) ≡ true → (any (entered p) xs ≡ true → p ∈ xs) → p ∈ x ∷ xs
+    cases true k h rest = List·Memᴰ·head (eqb-true p x (booleans.and-true (eqb p x) (ltb x 64) k .0))
+    cases false k h rest = List·Memᴰ·tail (rest h)
 
 -- and one for which there is room is found
 in-entered : (p : ℕ) (xs : List ℕ) → p < 64 → p ∈ xs → any (entered p) xs ≡ true

@@ -21,6 +21,7 @@ use Rattle.lines.specs.Stepping.{LineStepped}
 use Rattle.lines.proofs.LineLaws.{same-lengths}
 use Rattle.state.specs.declared.State.{State}
 use Rattle.state.specs.declared.Stepped.{Stepped}
+use Rattle.atomset.proofs.Members.{members-zero}
 use Rattle.run.specs.Running.{place, Running, Fresh, unread, RunOver}
 use Rattle.run.specs.declared.Ran.{Ran}
 
@@ -37,6 +38,8 @@ running-start text t fresh =
             full = fresh .full;
             counts = refl;
             stage = refl;
+            model = members-zero;
+            model-line = refl;
             claim = refl;
             names-in = λ n m. absurd (List·Memᴰ·not-nil m);
             names = empty (t .names) (ap (λ (c : Tables.Contents). c .names) (fresh .zeros));
@@ -103,7 +106,7 @@ module _ (text : Bytes) (line at : ℕ) (s : State) (t : Memory) (within : at �
                   r .outcome ∙ run-next (place line at) (r .file) (drop at text) (between text at end) (drop (end + 1) text) f cut q
                   ∙ ap (λ (p : Place). runFrom p (drop (end + 1) text) f) after-line;
             }
-        cases (refused n l) q k = absurd (omega (arith, e, k .0, step-refused (r .file) (place line at) (between text at end) n l q .0))
+        cases (refused n l) q k = absurd (omega (arith, e, k .0, step-refused (r .file) (place line at) (between text at end) n l q))
 
     -- it was refused
     running-refused : (stepped .number ≡ 0 → ⊥) → answerFrom top text noFile ≡ turnedDown (stepped .number) (stepped .line)

@@ -116,6 +116,7 @@ module _ {text : Bytes} {lent : Lent} {t : Contents} {r : Judged} (j : JudgesFil
             words-told = cleared ∙ sym (leaves .left);
             tables = j .judges .tables ∙ ap (filled lent) (contents-by (turnedDown n l) e ∙ sym (leaves .contents));
             claim-holds = j .judges .claim-holds;
+            claim-shown = j .judges .claim-shown;
           }
 
   module _ (fine : answer .number ≡ 0) where
@@ -135,6 +136,7 @@ module _ {text : Bytes} {lent : Lent} {t : Contents} {r : Judged} (j : JudgesFil
                 ∙ ap (filled lent) (contents-by (accepted (answer .line)) (j .accepts fine)
                 ∙ ap (heldBy (accepted (answer .line))) (filed .is-file) ∙ sym (leaves .contents));
             claim-holds = j .judges .claim-holds;
+            claim-shown = j .judges .claim-shown;
           }
 
       -- they do not, and the tables were cleared
@@ -147,6 +149,7 @@ module _ {text : Bytes} {lent : Lent} {t : Contents} {r : Judged} (j : JudgesFil
             words-told = put .left ∙ ap (λ (b : Bool). padded space (cond b (wordsIn text) [])) e ∙ sym (leaves .left);
             tables = cleared ∙ nothing-held lent ∙ ap (filled lent) (sym (leaves .contents));
             claim-holds = λ z. absurd (omega (arith, z));
+            claim-shown = λ z. absurd (omega (arith, z));
           }
 
 abbrev lent-of : ℕ → ℕ → ℕ → ℕ → ℕ → Lent

@@ -2,7 +2,7 @@
 use native.Mathlib.Omega.{arith}
 use mathlib.Core.List.{[]}
 use borrow.Author.Needs.{needs}
-use Rattle.keywords.specs.declared.Kind.the-variants.{Atom, Formula, Row, Claim, Unknown}
+use Rattle.keywords.specs.declared.Kind.the-variants.{Atom, Formula, Row, Model, Claim, Unknown}
 use Rattle.state.specs.State.{tables}
 use Rattle.lines.proofs.Dispatch.{kind-is, stepped-outside, stepped, stepped-unknown}
 use Rattle.lines.proofs.step_line.Statement.{statement}
@@ -72,16 +72,26 @@ row-line-requires c κs =
 enum-told-4 : tie.Need-enum-told-4
 enum-told-4 c = search needs
 
-claim-line-requires : tie.Need-claim-line-requires
-claim-line-requires c κs =
-    let read = c .before .before .before .before .before in (
+model-line-requires : tie.Need-model-line-requires
+model-line-requires c κs =
+    let read = c .before .before in (
       read .before .before .read-fields .ensures,
-      kind-is _ Claim (read .before .before .read-fields .ensures)
-          (read .before .field .ensures) (read .line-kind .ensures) (c .before .before .before .enum-told4 .given .1),
+      kind-is _ Model (read .before .before .read-fields .ensures) (read .before .field .ensures) (read .line-kind .ensures) (c .enum-told4 .given .1),
     )
 
 enum-told-5 : tie.Need-enum-told-5
 enum-told-5 c = search needs
+
+claim-line-requires : tie.Need-claim-line-requires
+claim-line-requires c κs =
+    let read = c .before .before .before .before .before .before in (
+      read .before .before .read-fields .ensures,
+      kind-is _ Claim (read .before .before .read-fields .ensures)
+          (read .before .field .ensures) (read .line-kind .ensures) (c .before .before .before .before .enum-told5 .given .1),
+    )
+
+enum-told-6 : tie.Need-enum-told-6
+enum-told-6 c = search needs
 
 refused-requires-3 : tie.Need-refused-requires-3
 refused-requires-3 c κs = search needs
@@ -120,6 +130,9 @@ returns-5 : tie.Need-returns-5
 returns-5 c =
     stepped _ _ _ _ _ _ (omega arith) (omega arith) _ _ (c .before .before .before .before .before .before .row-line .ensures _ _ (tables _ [] [] [] [] []))
 
+returns-6 : tie.Need-returns-6
+returns-6 c = stepped _ _ _ _ _ _ (omega arith) (omega arith) _ _ (c .model-line .ensures _ _ _)
+
 same-length-9 : tie.Need-same-length-9
 same-length-9 c = search needs
 
@@ -129,15 +142,18 @@ same-length-10 c = search needs
 same-length-11 : tie.Need-same-length-11
 same-length-11 c = search needs
 
-returns-6 : tie.Need-returns-6
-returns-6 c = stepped _ _ _ _ _ _ (omega arith) (omega arith) _ _ (c .claim-line .ensures _ _ (tables _ _ _ [] [] []))
+same-length-12 : tie.Need-same-length-12
+same-length-12 c = search needs
 
 returns-7 : tie.Need-returns-7
-returns-7 c =
+returns-7 c = stepped _ _ _ _ _ _ (omega arith) (omega arith) _ _ (c .claim-line .ensures _ _ (tables _ [] _ [] [] []))
+
+returns-8 : tie.Need-returns-8
+returns-8 c =
     let read = c .before .before .before in
     stepped-unknown _ _ _ _ _ _ (omega arith) (omega arith) _
     (kind-is _ Unknown (read .before .before .read-fields .ensures)
-    (read .before .field .ensures) (read .line-kind .ensures) (c .before .enum-told5 .given .1)) (c .refused3 .ensures)
+    (read .before .field .ensures) (read .line-kind .ensures) (c .before .enum-told6 .given .1)) (c .refused3 .ensures)
 
 pub step-line-spec : {M : Type 1} → statement M
 step-line-spec =
@@ -159,8 +175,10 @@ step-line-spec =
     enum-told-3
     row-line-requires
     enum-told-4
-    claim-line-requires
+    model-line-requires
     enum-told-5
+    claim-line-requires
+    enum-told-6
     refused-requires-3
     same-length
     returns-3
@@ -173,8 +191,10 @@ step-line-spec =
     same-length-7
     same-length-8
     returns-5
+    returns-6
     same-length-9
     same-length-10
     same-length-11
-    returns-6
-    returns-7)
+    same-length-12
+    returns-7
+    returns-8)

@@ -12,8 +12,8 @@ refused-requires c κs = search needs
 
 returns : tie.Need-returns
 returns c =
-    let pre = c .before .before .before .before .before .before .before .pre in
-    claim-miscounted _ _ _ _ _ _ _ (pre .1) (λ e. c .before .if1 .taken (pre .0 .counted ∙ e)) (c .refused .ensures)
+    let pre = c .before .before .before .before .before .before .before .before .pre in
+    claim-miscounted _ _ _ _ _ _ _ _ (pre .1) (λ e. c .before .if1 .taken (pre .0 .counted ∙ e)) (c .refused .ensures)
 
 field-requires : tie.Need-field-requires
 field-requires c κs = search needs
@@ -41,8 +41,8 @@ returns-2 c =
     let second = c .before .before .before .before in
     let first = second .before .before .before .before in
     let counted = first .before .before .before in
-    let pre = counted .before .before .before .before .before .before .pre in
-    claim-left-bad _ _ _ _ _ _ _ (pre .1) (sym (pre .0 .counted) ∙ counted .if1 .left)
+    let pre = counted .before .before .before .before .before .before .before .pre in
+    claim-left-bad _ _ _ _ _ _ _ _ (pre .1) (sym (pre .0 .counted) ∙ counted .if1 .left)
     (first .before .before .field .ensures .field (pre .0) (lit< tt)) (second .before .before .field2 .ensures .field (pre .0) (lit< tt))
     (first .read-list .ensures) (second .read-list2 .ensures)
     (not-true (first .read-list .result .well) (c .before .if2 .taken)) (c .refused2 .ensures)
@@ -55,8 +55,8 @@ returns-3 c =
     let second = c .before .before .before .before .before .before in
     let first = second .before .before .before .before in
     let counted = first .before .before .before in
-    let pre = counted .before .before .before .before .before .before .pre in
-    claim-right-bad _ _ _ _ _ _ _ (pre .1) (sym (pre .0 .counted) ∙ counted .if1 .left)
+    let pre = counted .before .before .before .before .before .before .before .pre in
+    claim-right-bad _ _ _ _ _ _ _ _ (pre .1) (sym (pre .0 .counted) ∙ counted .if1 .left)
     (first .before .before .field .ensures .field (pre .0) (lit< tt)) (second .before .before .field2 .ensures .field (pre .0) (lit< tt))
     (first .read-list .ensures) (second .read-list2 .ensures)
     (not-true (second .read-list2 .result .well) (c .before .if3 .taken)) (c .refused3 .ensures)
@@ -75,8 +75,8 @@ returns-4 c =
     let second = c .before .before .before .before .before .before .before .before in
     let first = second .before .before .before .before in
     let counted = first .before .before .before in
-    let pre = counted .before .before .before .before .before .before .pre in
-    claim-read _ _ _ _ _ _ _ (pre .1) (sym (pre .0 .counted) ∙ counted .if1 .left)
+    let pre = counted .before .before .before .before .before .before .before .pre in
+    claim-read _ _ _ _ _ _ _ _ (pre .1) (sym (pre .0 .counted) ∙ counted .if1 .left)
     (first .before .before .field .ensures .field (pre .0) (lit< tt)) (second .before .before .field2 .ensures .field (pre .0) (lit< tt))
     (first .read-list .ensures) (second .read-list2 .ensures)
     (not-false (first .read-list .result .well) (c .before .before .before .before .before .if2 .left))
