@@ -236,6 +236,12 @@ refused 17 an_implication_that_fails_there
 accepted an_implication_followed
     model p,q
     same p - p,p->q => p
+accepted an_implication_as_a_condition
+    model r
+    same (p->q)->r - (p->q)->r => (p->q)->r
+refused 17 an_implication_as_a_condition_that_fails_there
+    model p
+    same (p->q)->r - (p->q)->r => (p->q)->r
 accepted an_implication_in_an_implication
     model p,q
     same p->q - p->q,(p->q)->p => p->q
@@ -298,7 +304,8 @@ fn large() -> Vec<Case> {
     case("64_atoms", 16, facts(0..64, 0..64));
     case("63_atoms", 16, facts(0..63, 0..63));
     case("16_and_17_by_one_atom_more", 16, facts(0..16, 0..17));
-    case("16_and_17_by_64_atoms_and_one_fact", 16, facts(63..64, 0..64));
+    case("16_and_17_by_a_fact_left_out", 16, facts(0..18, 0..17));
+    case("16_and_17_by_one_fact_of_64", 16, facts(63..64, 0..64));
     case("16_of_17_atoms", 17, facts(0..17, 0..16));
     case("16_atoms_without_the_first_fact", 17, facts(1..16, 0..16));
     case("16_atoms_without_the_last_fact", 17, facts(0..15, 0..16));
