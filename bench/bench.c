@@ -1,6 +1,6 @@
 /* Times the proved checker beside the unverified one of fast.c, on accepted files near the format's limits: the same texts, lent
  * tables and process, through the same signature. Every call of either clears the tables first. Some files are also told in words, in
- * a lent text that these fill. */
+ * a lent text that these fill. Files with the slowest models that there are stand apart, since these take the most time by far. */
 #include <stdarg.h>
 #include <stdbool.h>
 #include <stdio.h>
@@ -16,9 +16,9 @@ __typeof__(elk_words) fast_words;
 
 /* ---- files written line by line */
 
-enum { MOST_BYTES = 65536, MOST_FORMULAS = 1024, MOST_ROWS = 2048, MOST_ON_SIDE = 64, MOST_ENTRIES = 16384, NONE = -1 };
+enum { MOST_BYTES = 65536, MOST_FORMULAS = 1024, MOST_ROWS = 2048, MOST_ON_SIDE = 64, MOST_ENTRIES = 16384, MOST_IN_MODEL = 16, NONE = -1 };
 
-/* A set of formulas, by their numbers in rising order. */
+/* A set of formulas, or of atoms, by their numbers in rising order. */
 struct side {
     int count;
     int formulas[MOST_ON_SIDE];
@@ -34,6 +34,8 @@ struct file {
     struct text atom_lines, formula_lines, row_lines;
     int atoms, formulas, rows, left_entries, right_entries;
     struct side last_left, last_right;
+    bool modelled;
+    struct side model;
 };
 
 static struct side with(struct side s, int formula) {
@@ -116,7 +118,20 @@ static int row(struct file *f, const char *rule, int principal, int first, int s
     return f->rows++;
 }
 
-/* ---- shapes: each writes an accepted derivation of so many rounds, and the last row is an ELK row to claim */
+/* A model beside the claim. In all shapes that have one its atoms are made first, and so have the numbers of their formulas. */
+static void model(struct file *f, struct side atoms) {
+    f->modelled = true;
+    f->model = atoms;
+}
+
+/* A row to claim, and its model, where a shape ends in what no small model confirms. */
+static void close_with(struct file *f, int p) {
+    row(f, "same", p, NONE, NONE, one(p), one(p));
+    model(f, one(p));
+}
+
+/* ---- shapes: each writes an accepted derivation of so many rounds, and the last row is an ELK row to claim, with a model or as a
+ * contradiction */
 
 /* Every ELK rule but unst, on short sides. */
 static void short_rows(struct file *f, int rounds) {
@@ -148,6 +163,7 @@ static void short_rows(struct file *f, int rounds) {
         int q_not_p = row(f, "def", not_p, NONE, NONE, left_q, with(right, not_p));
         row(f, "bot", bot, q_not_p, NONE, left_q, with(one(r), not_p));
     }
+    model(f, left_q);
 }
 
 /* Sides of 62 to 64 formulas, with one premise and with two. */
@@ -166,11 +182,12 @@ static void wide_sides(struct file *f, int rounds) {
         row(f, "wr", a, with_both, NONE, left, with(with(right, both), a));
         row(f, "rcut", b, with_b, with_both, left, with(right, both));
     }
+    close_with(f, a);
 }
 
 /* Negations nested as deep as there are rounds, each row on the one before. */
 static void deep_chain(struct file *f, int rounds) {
-    int a = atom(f);
+    int p = atom(f), a = p;
     int last = row(f, "same", a, NONE, NONE, one(a), one(a));
     for (int i = 0; i < rounds; i++) {
         int not_a = negation(f, a);
@@ -178,6 +195,7 @@ static void deep_chain(struct file *f, int rounds) {
         last = row(f, "notr", not_a, last, NONE, one(not_a), one(not_a));
         a = not_a;
     }
+    close_with(f, p);
 }
 
 /* The conjunction of formulas, nested to the right. */
@@ -189,7 +207,7 @@ static int joined(struct file *f, const int *formulas, int count) {
 }
 
 /* Short rows of unst with long tests: L is ~~q, ~(~q&Z), where Z joins all other atoms, and S is all atoms. L has no equilibrium
- * model, so that any right side follows. */
+ * model, so that any right side follows; the last row claims that. */
 static void unstable_rows(struct file *f, int atoms, int rounds) {
     enum { MOST_ATOMS = 63 };
     int p[MOST_ATOMS], not_p[MOST_ATOMS], doubled[MOST_ATOMS], middle[MOST_ATOMS];
@@ -226,10 +244,8 @@ static void unstable_rows(struct file *f, int atoms, int rounds) {
 
     for (int i = 0; i < rounds; i++)
         row(f, "unst", NONE, choice, refutation, l, two(k, p[i % atoms]));
+    row(f, "unst", NONE, choice, refutation, l, empty);
 }
-
-static void unstable_16(struct file *f, int rounds) { unstable_rows(f, 16, rounds); }
-static void unstable_63(struct file *f, int rounds) { unstable_rows(f, 63, rounds); }
 
 /* Two refutations that wrap one formula deeper and deeper, the second under a negation, among literals on both sides. */
 static void refutations(struct file *f, int rounds) {
@@ -276,7 +292,7 @@ static void refutations(struct file *f, int rounds) {
         n = negation(f, y = n);
         last_negated = row(f, "xnnl", n, last_negated, NONE, with(left, n), right);
     }
-    row(f, "same", a, NONE, NONE, one(a), one(a));
+    close_with(f, a);
 }
 
 /* A formula and two rows each round, to 1,024 formulas and 2,048 rows. */
@@ -289,29 +305,66 @@ static void many_formulas(struct file *f, int rounds) {
         if (i + 1 < rounds)
             newest = formula(f, words[i % 3], i % 2 ? p : newest, i % 2 ? newest : p);
     }
+    model(f, one(p));
 }
 
-static const struct shape {
+/* A sheet of one formula that rests on all others, each on the one before it, with all atoms as its model: every proper part must be
+ * tried, and fails by the last formula alone, which asks for all atoms. */
+static void slow_model(struct file *f, int atoms, int rounds) {
+    static const char *const words[] = {"and", "or", "imp"};
+    int p[MOST_IN_MODEL];
+    struct side all = {0};
+    for (int i = 0; i < atoms; i++)
+        all = with(all, p[i] = atom(f));
+    int every = joined(f, p, atoms), newest = p[0];
+    for (int i = 0; i < rounds; i++)
+        newest = formula(f, words[i % 3], i % 2 ? p[i % atoms] : newest, i % 2 ? newest : p[i % atoms]);
+    int sheet = formula(f, "and", newest, every);
+    row(f, "same", sheet, NONE, NONE, one(sheet), one(sheet));
+    model(f, all);
+}
+
+/* A shape is written by one of the two functions. */
+struct shape {
     const char *name;
     void (*write)(struct file *, int rounds);
     const char *told; /* its name where it is told in words, if it is */
-} shapes[] = {
-    {"short rows", short_rows, "words, short"},
-    {"sides of 64", wide_sides, "words, wide"},
-    {"deep chain", deep_chain, NULL},
-    {"unst, 16 atoms", unstable_16, NULL},
-    {"unst, 63 atoms", unstable_63, NULL},
-    {"refutations", refutations, "words, nested"},
-    {"many formulas", many_formulas, NULL},
+    void (*write_over)(struct file *, int atoms, int rounds);
+    int atoms;
+};
+
+static const struct shape shapes[] = {
+    {"short rows", .write = short_rows, .told = "words, short"},
+    {"sides of 64", .write = wide_sides, .told = "words, wide"},
+    {"deep chain", .write = deep_chain},
+    {"unst, 16 atoms", .write_over = unstable_rows, .atoms = 16},
+    {"unst, 63 atoms", .write_over = unstable_rows, .atoms = 63},
+    {"refutations", .write = refutations, .told = "words, nested"},
+    {"many formulas", .write = many_formulas},
 };
 enum { SHAPES = sizeof shapes / sizeof *shapes };
+
+static const struct shape slow_shapes[] = {
+    {"model of 8", .write_over = slow_model, .atoms = 8},
+    {"model of 10", .write_over = slow_model, .atoms = 10},
+    {"model of 12", .write_over = slow_model, .atoms = 12},
+    {"model of 14", .write_over = slow_model, .atoms = 14},
+    {"model of 16", .write_over = slow_model, .atoms = MOST_IN_MODEL},
+};
+enum { SLOW_SHAPES = sizeof slow_shapes / sizeof *slow_shapes };
 
 /* ---- the largest file of a shape */
 
 /* The whole text of a derivation, with its last row as the claim. */
 static void assemble(const struct file *f, struct text *t) {
     t->length = 0;
-    put(t, "%s%s%sC", f->atom_lines.bytes, f->formula_lines.bytes, f->row_lines.bytes);
+    put(t, "%s%s%s", f->atom_lines.bytes, f->formula_lines.bytes, f->row_lines.bytes);
+    if (f->modelled) {
+        put(t, "M");
+        put_side(t, f->model);
+        put(t, "\n");
+    }
+    put(t, "C");
     put_side(t, f->last_left);
     put_side(t, f->last_right);
     put(t, "\n");
@@ -320,7 +373,10 @@ static void assemble(const struct file *f, struct text *t) {
 /* Writes the file, and tells whether it keeps to the format's limits and to so many bytes. */
 static bool fits(const struct shape *shape, int rounds, size_t bytes, struct file *f, struct text *t) {
     memset(f, 0, sizeof *f);
-    shape->write(f, rounds);
+    if (shape->write_over != NULL)
+        shape->write_over(f, shape->atoms, rounds);
+    else
+        shape->write(f, rounds);
     assemble(f, t);
     bool whole = f->atom_lines.length <= bytes && f->formula_lines.length <= bytes && f->row_lines.length <= bytes;
     return whole && t->length <= bytes && f->formulas <= MOST_FORMULAS && f->rows <= MOST_ROWS && f->left_entries <= MOST_ENTRIES
@@ -373,7 +429,7 @@ static double microseconds(__typeof__(elk_judge) *judge, const struct text *t, s
     return (double)(end.tv_sec - start.tv_sec) * 1e6 + (double)(end.tv_nsec - start.tv_nsec) / 1e3;
 }
 
-enum { REPETITIONS = 300, SIZES = 4 };
+enum { REPETITIONS = 300, SLOW_REPETITIONS = 5, SIZES = 4 };
 
 /* The best times of both, taken in turn. */
 struct times {
@@ -381,9 +437,9 @@ struct times {
     double proved, fast;
 };
 
-static struct times times_of(const struct text *t) {
+static struct times times_of(const struct text *t, int repetitions) {
     struct times best = {true, 1e9, 1e9};
-    for (int i = 0; i < REPETITIONS; i++) {
+    for (int i = 0; i < repetitions; i++) {
         double proved = microseconds(elk_judge, t, &proved_tables), fast = microseconds(fast_judge, t, &fast_tables);
         best.proved = proved < best.proved ? proved : best.proved;
         best.fast = fast < best.fast ? fast : best.fast;
@@ -435,6 +491,10 @@ static struct times times_told(const struct text *t, size_t length) {
     return best;
 }
 
+static void print_heading(const char *table) {
+    printf("%-16s %7s %6s %9s %6s %10s %11s %7s\n", table, "bytes", "atoms", "formulas", "rows", "proved", "unverified", "ratio");
+}
+
 static void print_times(const char *name, size_t bytes, const struct file *f, struct times best) {
     printf("%-16s %7zu %6d %9d %6d %10.1f %11.1f %7.2f\n", name, bytes, f->atoms, f->formulas, f->rows, best.proved, best.fast,
            best.proved / best.fast);
@@ -445,7 +505,7 @@ int main(void) {
     static struct text text;
     static struct times times[SHAPES][SIZES];
     printf("Microseconds of one call, the best of %d. Every call clears the five lent tables first, on both sides.\n\n", REPETITIONS);
-    printf("%-16s %7s %6s %9s %6s %10s %11s %7s\n", "largest files", "bytes", "atoms", "formulas", "rows", "proved", "unverified", "ratio");
+    print_heading("largest files");
     for (int i = 0; i < SHAPES; i++)
         for (int j = 0; j < SIZES; j++) {
             bool full_size = j == SIZES - 1;
@@ -457,7 +517,7 @@ int main(void) {
                 continue;
             }
             agree(&shapes[i], &text);
-            times[i][j] = times_of(&text);
+            times[i][j] = times_of(&text, REPETITIONS);
             if (full_size)
                 print_times(shapes[i].name, text.length, &file, times[i][j]);
         }
@@ -482,5 +542,16 @@ int main(void) {
                     printf(" %10s", "-");
             printf("\n");
         }
+
+    printf("\n");
+    print_heading("slowest models");
+    for (int i = 0; i < SLOW_SHAPES; i++) {
+        if (!largest(&slow_shapes[i], MOST_BYTES, &file, &text)) {
+            fprintf(stderr, "bench: %s: no file fits\n", slow_shapes[i].name);
+            return 1;
+        }
+        agree(&slow_shapes[i], &text);
+        print_times(slow_shapes[i].name, text.length, &file, times_of(&text, SLOW_REPETITIONS));
+    }
     return 0;
 }

@@ -2,17 +2,18 @@
  * govelamuth.h, for little-endian machines, with the same answers and tables.
  *
  * It goes through the text once, and reads straight into the lent tables. What rules ask of a formula is worked out when its line is
- * read: the number of its negation, its atoms, and what it can be in unst. Sides are compared with two cursors. */
+ * read: the number of its negation, its atoms, and what it can be in unst. Sides are compared with two cursors. A model is tried against
+ * one part of it after the other, with the truth of each formula that the sheet rests on worked out in the order of the formulas. */
 #include <stdbool.h>
 #include <string.h>
 
 #include "govelamuth.h"
 
-enum { ATOMS = 64, FORMULAS = 1024, ROWS = 2048, ON_SIDE = 64, ENTRIES = 16384, BYTES = 65536, ABSENT = 65535 };
+enum { ATOMS = 64, FORMULAS = 1024, ROWS = 2048, ON_SIDE = 64, ENTRIES = 16384, BYTES = 65536, IN_MODEL = 16, ABSENT = 65535 };
 
 enum {
     ACCEPTED, SHORT_TABLE, TOO_LONG, BAD_LINE, OUT_OF_ORDER, FULL, BAD_NAME, NO_SUCH_ITEM, FORMULA_AGAIN, BAD_SIDE, WRONG_PREMISES,
-    WRONG_STEP, CLAIM_DIFFERS, NO_CLAIM, NO_ROOM
+    WRONG_STEP, CLAIM_DIFFERS, NO_CLAIM, NO_ROOM, MODEL_MISSING_OR_UNWANTED, MODEL_TOO_LARGE, NOT_IN_EQUILIBRIUM
 };
 
 /* ---- the rules */
@@ -107,8 +108,11 @@ struct checker {
     struct node *nodes;
     struct row *rows;
     uint16_t *left, *right;
-    uint32_t stage; /* 0 to 3: atoms, formulas, rows, claimed */
+    uint32_t line;
+    uint32_t stage; /* 0 to 4: atoms, formulas, rows, modelled, claimed */
     uint32_t atoms, formulas, row_count, left_used, right_used;
+    uint32_t model_line; /* 0 if there is none */
+    uint64_t model;
     /* Hash tables with linear probing; 0 is a free slot. */
     uint8_t word_slots[WORD_SLOTS], name_slots[NAME_SLOTS];
     uint32_t formula_slots[FORMULA_SLOTS];
@@ -634,6 +638,124 @@ static uint32_t row_line(struct checker *c, const uint8_t **at) {
     return judge_row(c, row, named, premises.count);
 }
 
+/* ---- the M line */
+
+static uint32_t model_line(struct checker *c, const uint8_t **at) {
+    uint16_t atoms[ATOMS];
+    struct list list;
+    if (!read_list(at, '\n', atoms, ATOMS, &list))
+        return BAD_LINE;
+    if (c->stage > 2)
+        return OUT_OF_ORDER;
+    if (ahead(list, c->atoms))
+        return NO_SUCH_ITEM;
+    if (bad_side(list))
+        return BAD_SIDE;
+    for (uint32_t i = 0; i < list.count; i++)
+        c->model |= 1ULL << atoms[i];
+    c->model_line = c->line;
+    c->stage = 3;
+    return ACCEPTED;
+}
+
+/* Formulas whose truth differs from part to part, those of the sheet marked: an atom; and A&B, A|B or A->B, without a branch as
+ * ((A^x)&(B^y))^z. */
+struct varying_atom {
+    uint16_t formula;
+    uint8_t atom;
+};
+struct varying_pair {
+    uint16_t formula, a, b;
+    uint8_t x, y, z, on_sheet;
+};
+
+/* Whether T is an equilibrium model of the sheet. What fails in (T,T) fails in every (H,T), and a negation that holds in the one holds
+ * in the others, so that neither is looked at again. */
+static bool in_equilibrium(const struct checker *c, uint64_t model, struct side sheet) {
+    uint8_t truth[FORMULAS], needed[FORMULAS];
+    uint32_t count = sheet.count > 0 ? sheet.at[sheet.count - 1] + 1u : 0;
+    for (uint32_t f = 0; f < count; f++) {
+        struct node n = c->nodes[f];
+        switch (n.word) {
+        case BOT:
+            truth[f] = 0;
+            break;
+        case ATOM:
+            truth[f] = model >> n.first & 1;
+            break;
+        case NOT:
+            truth[f] = !truth[n.first];
+            break;
+        case AND:
+            truth[f] = truth[n.first] & truth[n.second];
+            break;
+        case OR:
+            truth[f] = truth[n.first] | truth[n.second];
+            break;
+        case IMP:
+            truth[f] = (truth[n.first] ^ 1) | truth[n.second];
+            break;
+        }
+    }
+    enum { FOR_ANOTHER = 1, ON_SHEET = 2 };
+    memset(needed, 0, count);
+    for (uint32_t i = 0; i < sheet.count; i++) {
+        if (!truth[sheet.at[i]])
+            return false;
+        needed[sheet.at[i]] = ON_SHEET;
+    }
+    for (uint32_t f = count; f-- > 0;)
+        if (needed[f] && truth[f] && c->nodes[f].word >= AND) {
+            needed[c->nodes[f].first] |= FOR_ANOTHER;
+            needed[c->nodes[f].second] |= FOR_ANOTHER;
+        }
+
+    struct varying_atom atoms[ATOMS];
+    struct varying_pair pairs[FORMULAS];
+    uint32_t atom_count = 0, pair_count = 0;
+    uint64_t facts = 0;
+    for (uint32_t f = 0; f < count; f++) {
+        struct node n = c->nodes[f];
+        bool on_sheet = needed[f] & ON_SHEET;
+        if (!needed[f] || !truth[f])
+            continue;
+        if (n.word == ATOM) {
+            atoms[atom_count++] = (struct varying_atom){(uint16_t)f, (uint8_t)n.first};
+            facts |= (uint64_t)on_sheet << n.first;
+        } else if (n.word >= AND)
+            pairs[pair_count++] = (struct varying_pair){(uint16_t)f, n.first, n.second, n.word == OR, n.word != AND, n.word != AND, on_sheet};
+    }
+
+    for (uint64_t part = 0; part != model; part = (part - model) & model) {
+        if ((facts & ~part) != 0)
+            continue;
+        for (uint32_t i = 0; i < atom_count; i++)
+            truth[atoms[i].formula] = part >> atoms[i].atom & 1;
+        const struct varying_pair *p = pairs, *end = pairs + pair_count;
+        for (; p < end; p++) {
+            uint8_t holds = ((truth[p->a] ^ p->x) & (truth[p->b] ^ p->y)) ^ p->z;
+            truth[p->formula] = holds;
+            if (holds < p->on_sheet)
+                break;
+        }
+        if (p == end)
+            return false;
+    }
+    return true;
+}
+
+/* Whether the claim has the model that it wants, or shows a contradiction without one. */
+static uint32_t judge_model(const struct checker *c, struct side left, struct side right) {
+    bool wanted = right.count > 1 || (right.count == 1 && c->traits[right.at[0]].literal != FALSUM);
+    if (wanted != (c->model_line != 0))
+        return MODEL_MISSING_OR_UNWANTED;
+    if (!wanted)
+        return ACCEPTED;
+    if (__builtin_popcountll(c->model) > IN_MODEL)
+        return MODEL_TOO_LARGE;
+    return in_equilibrium(c, c->model, left) ? ACCEPTED : NOT_IN_EQUILIBRIUM;
+}
+
 /* ---- the C line */
 
 static uint32_t claim_line(struct checker *c, const uint8_t **at) {
@@ -641,7 +763,7 @@ static uint32_t claim_line(struct checker *c, const uint8_t **at) {
     struct list left, right;
     if (!read_list(at, '\t', left_entries, ON_SIDE, &left) || !read_list(at, '\n', right_entries, ON_SIDE, &right))
         return BAD_LINE;
-    if (c->stage > 2)
+    if (c->stage > 3)
         return OUT_OF_ORDER;
     if (ahead(left, c->formulas) || ahead(right, c->formulas))
         return NO_SUCH_ITEM;
@@ -652,8 +774,8 @@ static uint32_t claim_line(struct checker *c, const uint8_t **at) {
     struct sequent last = sides_of(c, &c->rows[c->row_count - 1]);
     if (!same(last.left, (struct side){left_entries, left.count}) || !same(last.right, (struct side){right_entries, right.count}))
         return CLAIM_DIFFERS;
-    c->stage = 3;
-    return ACCEPTED;
+    c->stage = 4;
+    return judge_model(c, last.left, last.right);
 }
 
 /* ---- the text */
@@ -669,6 +791,8 @@ static uint32_t judge_line(struct checker *c, const uint8_t **at) {
         return formula_line(c, at);
     case 'A':
         return atom_line(c, at);
+    case 'M':
+        return model_line(c, at);
     case 'C':
         return claim_line(c, at);
     default:
@@ -678,18 +802,20 @@ static uint32_t judge_line(struct checker *c, const uint8_t **at) {
 
 static struct elk_answer judge_lines(struct checker *c, size_t text_length) {
     const uint8_t *at = c->text, *text_end = c->text + text_length;
-    struct elk_answer answer = {ACCEPTED, 0};
-    while (at < c->end && answer.number == ACCEPTED) {
-        answer.line++;
-        answer.number = judge_line(c, &at);
+    uint32_t number = ACCEPTED;
+    while (at < c->end && number == ACCEPTED) {
+        c->line++;
+        number = judge_line(c, &at);
     }
-    if (answer.number != ACCEPTED)
-        return answer;
+    if (number >= MODEL_MISSING_OR_UNWANTED && c->model_line != 0)
+        return (struct elk_answer){number, c->model_line};
+    if (number != ACCEPTED)
+        return (struct elk_answer){number, c->line};
     if (c->end != text_end)
-        return (struct elk_answer){BAD_LINE, answer.line + 1};
-    if (c->stage != 3)
-        return (struct elk_answer){NO_CLAIM, answer.line + 1};
-    return answer;
+        return (struct elk_answer){BAD_LINE, c->line + 1};
+    if (c->stage != 4)
+        return (struct elk_answer){NO_CLAIM, c->line + 1};
+    return (struct elk_answer){ACCEPTED, c->line};
 }
 
 enum { TABLES = 5 };

@@ -16,7 +16,7 @@
 
 /* What a number means. */
 enum elk_number {
-    ELK_ACCEPTED = 0, /* none below */
+    ELK_ACCEPTED = 0, /* confirmed, or a contradiction shown */
     ELK_SHORT_TABLE = 1, /* a lent table is too short */
     ELK_TOO_LONG = 2, /* text over 65,536 bytes */
     ELK_BAD_LINE = 3, /* no LF, unknown kind or word, wrong fields, number or list badly written */
@@ -31,6 +31,9 @@ enum elk_number {
     ELK_CLAIM_DIFFERS = 12, /* the last row is not an ELK row with exactly these sides, or there is no row */
     ELK_NO_CLAIM = 13, /* the text ends with no C line */
     ELK_NO_ROOM = 14, /* the lent text is too short for what is to be written */
+    ELK_MODEL_MISSING_OR_UNWANTED = 15, /* no M line though the claim wants a model, or an M line though it wants none */
+    ELK_MODEL_TOO_LARGE = 16, /* the model has over 16 atoms */
+    ELK_NOT_IN_EQUILIBRIUM = 17, /* the model is not an equilibrium model of the claim's left side */
 };
 
 struct elk_answer {

@@ -6,6 +6,7 @@
 mod examples;
 mod families;
 mod limits;
+mod models;
 mod numbers;
 mod pairs;
 mod rows;
@@ -41,6 +42,7 @@ pub fn cases() -> Vec<Case> {
         numbers::cases(),
         pairs::cases(),
         limits::cases(),
+        models::cases(),
         steps::cases(),
         families::cases(),
         words::cases(),
@@ -150,8 +152,8 @@ mod tests {
     }
 
     #[test]
-    fn every_number_but_1_is_earned() {
+    fn every_number_but_1_and_14_is_earned() {
         let earned: BTreeSet<u16> = cases().iter().map(|case| case.number).collect();
-        assert!(earned.into_iter().eq((0..=13).filter(|&number| number != 1)));
+        assert!(earned.into_iter().eq((0..=17).filter(|number| ![1, 14].contains(number))));
     }
 }

@@ -1,8 +1,9 @@
 //! A derivation that is being put together, and its text.
 
-use crate::formula::{Formula, FormulaSet, Formulas, Node};
+use crate::formula::{Atoms, Formula, FormulaSet, Formulas, Node, rising};
 use crate::random::Random;
 use crate::rules::ELK;
+use crate::semantics::equilibrium_models;
 use crate::sequent::{Kind, Sequent};
 use std::collections::HashMap;
 
@@ -21,18 +22,20 @@ impl DraftRow {
 }
 
 /// Atoms are named, formulas are numbered in the order of `listed`, which holds every
-/// formula of the rows after its parts.
+/// formula of the rows after its parts. The claim is the last row, with a model beside it
+/// or none.
 pub struct Draft {
     pub names: Vec<String>,
     pub formulas: Formulas,
     pub listed: Vec<Formula>,
     pub rows: Vec<DraftRow>,
+    pub model: Option<Atoms>,
 }
 
 impl Draft {
     /// Numbers the formulas of the rows, and those in `first` before them.
     pub fn new(names: Vec<String>, formulas: Formulas, first: &[Formula], rows: Vec<DraftRow>) -> Self {
-        let mut draft = Draft { names, formulas, listed: vec![], rows };
+        let mut draft = Draft { names, formulas, listed: vec![], rows, model: None };
         let of_row = |row: &DraftRow| {
             let Sequent { antecedent, succedent } = row.sequent.clone();
             row.principal.into_iter().chain(antecedent).chain(succedent).collect::<Vec<_>>()
@@ -63,6 +66,30 @@ impl Draft {
         for formula in waiting {
             self.list(formula, &mut listed);
         }
+    }
+
+    /// Puts one of the models of the last row's left beside the claim, if it wants one.
+    /// False if there is none to choose, or no sequent to claim.
+    pub fn confirm(&mut self, choose: impl FnOnce(&[Atoms]) -> Atoms) -> bool {
+        let Some(row) = self.rows.last().filter(|row| row.kind() == Kind::Elk) else { return false };
+        if !row.sequent.wants_model(&self.formulas) {
+            return true;
+        }
+        let models = equilibrium_models(&self.formulas, &row.sequent.antecedent);
+        self.model = (!models.is_empty()).then(|| choose(&models));
+        self.model.is_some()
+    }
+
+    /// Adds a row of an atom alone, with that atom as the model beside the claim.
+    pub fn close(&mut self, atom: u16) {
+        let p = self.formulas.atom(atom);
+        if !self.listed.contains(&p) {
+            self.listed.push(p);
+        }
+        let rule = ELK.code("same").expect("same is a rule");
+        let sequent = Sequent { antecedent: [p].into(), succedent: [p].into() };
+        self.rows.push(DraftRow { rule, principal: Some(p), premises: vec![], sequent });
+        self.model = Some(1 << atom);
     }
 
     /// The text whose claim is the last row's sides.
@@ -96,6 +123,9 @@ impl Draft {
                 side(&row.sequent.antecedent),
                 side(&row.sequent.succedent),
             ]);
+        }
+        if let Some(model) = self.model {
+            line(&["M".into(), list(&rising(model).map(usize::from).collect::<Vec<_>>())]);
         }
         line(&["C".into(), side(&claim.antecedent), side(&claim.succedent)]);
         text.into_bytes()

@@ -1,12 +1,13 @@
 //! Random texts, judged and cross-checked.
 //!
 //! Every text is judged by set algebra and by search; what is accepted must be true
-//! in the brute-force semantics, row by row; its tables must give the text back, and its
-//! words the rows; and an answer that is known beforehand must be given.
+//! in the brute-force semantics, row by row, and its model be one there, or the left have
+//! none where there is no model; its tables must give the text back, and its words the
+//! rows; and an answer that is known beforehand must be given.
 
 use crate::draft::list;
-use crate::formula::{Atoms, Formulas};
-use crate::judge::{Deciding, Derivation, Judgement, judge, judge_closely};
+use crate::formula::{Atoms, Formulas, rising};
+use crate::judge::{Deciding, Derivation, Judgement, Refusal, judge, judge_closely};
 use crate::line::{self, Line};
 use crate::reading;
 use crate::rules::ELK;
@@ -27,11 +28,12 @@ use std::process::ExitCode;
 struct Report {
     passed: usize,
     failed: usize,
-    numbers: [usize; 14],
+    numbers: [usize; 18],
     rules: BTreeMap<usize, RowCounts>,
     rows_compared: Cell<usize>,
     rows_valued: usize,
     claims_confirmed: usize,
+    contradictions_shown: usize,
     claims_too_large: usize,
     words_read: usize,
     words_too_long: usize,
@@ -107,10 +109,10 @@ impl Report {
             return Err(format!("{given:?} is answered for {answer:?}"));
         }
         match &derivation {
-            Some(_) if rebuilt(text, &judgement) != *text => {
-                return Err("tables that give another text".into());
-            }
             Some(derivation) => {
+                if rebuilt(text, &judgement, derivation.model) != *text {
+                    return Err("tables that give another text".into());
+                }
                 self.value(derivation)?;
                 self.read_back(derivation)?;
             }
@@ -118,6 +120,12 @@ impl Report {
             None => {}
         }
         Ok((judgement, derivation))
+    }
+
+    /// How many texts earned each number that a judgement may have; 14 is for words alone.
+    fn judged(&self) -> impl Iterator<Item = (usize, usize)> {
+        let numbered = self.numbers.into_iter().enumerate();
+        numbered.filter(|&(number, _)| number != Refusal::NoRoom as usize)
     }
 
     /// Asks of the words whether they have their length and no room to spare, read back
@@ -164,15 +172,25 @@ impl Report {
         }
     }
 
-    /// Asks of the claim and of every row whether it is true, where the atoms are few.
+    /// Asks of the claim and of every row whether it is true, and of the model whether it
+    /// is one, where the atoms are few.
     fn value(&mut self, derivation: &Derivation) -> Result<(), String> {
-        let Derivation { formulas, rows, claim, .. } = derivation;
+        let Derivation { formulas, rows, model, claim, .. } = derivation;
         match few_atoms(formulas, [claim]) {
             None => self.claims_too_large += 1,
-            Some(atoms) if Interpretations::over(formulas, atoms).entails(claim) => {
-                self.claims_confirmed += 1
+            Some(atoms) => {
+                let mut interpretations = Interpretations::over(formulas, atoms);
+                if !interpretations.entails(claim) {
+                    return Err("the claim is accepted and fails".into());
+                }
+                let models = interpretations.equilibrium_models(&claim.antecedent);
+                match model {
+                    Some(model) if models.contains(model) => self.claims_confirmed += 1,
+                    None if models.is_empty() => self.contradictions_shown += 1,
+                    Some(_) => return Err("the claim is accepted with a set that is no model".into()),
+                    None => return Err("a contradiction is accepted, and there is a model".into()),
+                }
             }
-            Some(_) => return Err("the claim is accepted and fails".into()),
         }
         let Some(atoms) = few_atoms(formulas, rows.iter().map(|(_, sequent)| sequent)) else { return Ok(()) };
         let mut interpretations = Interpretations::over(formulas, atoms);
@@ -211,9 +229,9 @@ fn used_records(table: &[u16], used: usize, width: usize) -> impl Iterator<Item 
     table[..used].chunks(width)
 }
 
-/// The text that the tables of an accepted text stand for; the claim is the last
-/// row's, and each number and list has one writing.
-fn rebuilt(text: &[u8], judgement: &Judgement) -> Vec<u8> {
+/// The text that the tables of an accepted text stand for, with the model, which they
+/// don't hold; the claim is the last row's, and each number and list has one writing.
+fn rebuilt(text: &[u8], judgement: &Judgement, model: Option<Atoms>) -> Vec<u8> {
     const WORDS: [&str; 6] = ["bot", "atom", "not", "and", "or", "imp"];
     let Judgement { tables, used, .. } = judgement;
     let optional = |entry: u16| if entry == 65_535 { "-".into() } else { entry.to_string() };
@@ -242,6 +260,8 @@ fn rebuilt(text: &[u8], judgement: &Judgement) -> Vec<u8> {
         let rule = ELK.rules[record[0] as usize].name;
         lines.push(format!("N\t{k}\t{rule}\t{}\t{}\t{claim}", optional(record[1]), list(&premises)));
     }
+    let atoms = |model| list(&rising(model).map(usize::from).collect::<Vec<_>>());
+    lines.extend(model.map(|model| format!("M\t{}", atoms(model))));
     lines.push(format!("C\t{claim}"));
     lines.into_iter().map(|line| line + "\n").collect::<String>().into_bytes()
 }
@@ -249,7 +269,7 @@ fn rebuilt(text: &[u8], judgement: &Judgement) -> Vec<u8> {
 impl fmt::Display for Report {
     fn fmt(&self, f: &mut fmt::Formatter) -> fmt::Result {
         writeln!(f, "number\ttexts")?;
-        for (number, count) in self.numbers.iter().enumerate() {
+        for (number, count) in self.judged() {
             writeln!(f, "{number}\t{count}")?;
         }
         writeln!(f, "rule\trows passed\trefused with 10\trefused with 11")?;
@@ -260,10 +280,12 @@ impl fmt::Display for Report {
         }
         writeln!(f, "{} rows decided alike by algebra and by search", self.rows_compared.get())?;
         writeln!(f, "{} rows of accepted texts are true by brute force", self.rows_valued)?;
-        let (confirmed, too_large) = (self.claims_confirmed, self.claims_too_large);
+        let (confirmed, shown) = (self.claims_confirmed, self.contradictions_shown);
         writeln!(
             f,
-            "{confirmed} accepted claims hold by brute force, {too_large} have too many atoms for it"
+            "{confirmed} accepted claims hold by brute force and have the model beside them, \
+            {shown} show a contradiction; {} have too many atoms for it",
+            self.claims_too_large
         )?;
         let (read, different, too_long) = (self.words_read, self.rows_by_words.len(), self.words_too_long);
         writeln!(
@@ -285,7 +307,8 @@ mod tests {
         let report = run(7, 4_000, |_, _, _| Ok(()));
         assert_eq!(report.failed, 0);
         assert!(report.words_read > 100 && report.words_too_long > 0, "{report}");
-        assert!(report.numbers.iter().all(|&count| count > 5), "{report}");
+        assert!(report.judged().all(|(_, count)| count > 5), "{report}");
+        assert!(report.claims_confirmed > 100 && report.contradictions_shown > 50, "{report}");
         let common = |counts: &RowCounts| {
             let RowCounts { passed, wrong_premises, wrong_step } = *counts;
             passed > 5 && wrong_premises > 0 && wrong_step > 0

@@ -1,6 +1,7 @@
 //! Random derivations that must be accepted: of entailed claims by the proof of
 //! completeness, of single rules in general position, and by walking forward from
-//! whatever rows there are.
+//! whatever rows there are. A model stands beside the claim where it wants one; what no
+//! model confirms is followed by a row that one does.
 
 use crate::draft::{Draft, DraftRow, names};
 use crate::formula::{Atoms, Formula, FormulaSet, Formulas, Node, rising};
@@ -9,7 +10,7 @@ use crate::judge::{MOST_BYTES, MOST_FORMULAS, MOST_IN_A_POOL, MOST_ON_A_SIDE, MO
 use crate::prove::Prover;
 use crate::random::Random;
 use crate::rules::{Bindings, ELK, Rule, SetName, Sets, SideScheme};
-use crate::semantics::Pair;
+use crate::semantics::{Pair, equilibrium_models};
 use crate::sequent::{Kind, Sequent};
 
 /// A derivation of one of the three sorts.
@@ -24,7 +25,8 @@ pub fn any(random: &mut Random) -> Draft {
     }
 }
 
-/// A derivation of an entailed claim over a few atoms.
+/// A derivation of an entailed claim over a few atoms. A left without models is made to
+/// show that, half of the time.
 pub fn derivation(random: &mut Random) -> Draft {
     attempt(random, |random, atoms| {
         let mut formulas = Formulas::default();
@@ -32,7 +34,10 @@ pub fn derivation(random: &mut Random) -> Draft {
             let count = random.below(most + 1);
             (0..count).map(|_| formula(random, &mut formulas, atoms, 3)).collect()
         };
-        let goal = Sequent { antecedent: side(3), succedent: side(2) };
+        let mut goal = Sequent { antecedent: side(3), succedent: side(2) };
+        if random.once_in(2) && equilibrium_models(&formulas, &goal.antecedent).is_empty() {
+            goal.succedent = random.some_of([formulas.falsum()]);
+        }
         let mut prover = Prover::new(formulas, Random::new(random.word()));
         let unstable = if random.once_in(2) { prover.prove_unstable(&goal) } else { None };
         let last = unstable.or_else(|| prover.prove(&goal))?;
@@ -95,9 +100,6 @@ fn general(random: &mut Random, atoms: &[u16], rule: &Rule) -> Option<Prover> {
     }
     let sequent = ELK.sequent(&mut prover.formulas, &rule.conclusion, &bindings, &sets);
     prover.push(DraftRow { rule: ELK.code(rule.name)?, principal, premises, sequent });
-    if rule.conclusion.kind == Kind::Refutation {
-        prover.push(same(common, Sequent { antecedent: [common].into(), succedent: [common].into() }));
-    }
     Some(prover)
 }
 
@@ -273,12 +275,20 @@ fn sets_between(
 /// of those that the file names.
 fn attempt(random: &mut Random, make: impl Fn(&mut Random, &[u16]) -> Option<Prover>) -> Draft {
     loop {
-        let named = if random.once_in(8) { 64 } else { 3 + random.below(3) };
+        // All that a file may name, or a few more than a model may hold, or a few.
+        let named = match random.below(8) {
+            0 => 64,
+            1 | 2 => 17 + random.below(3),
+            _ => 3 + random.below(3),
+        };
         let used = 1 + random.below(3);
         let mut atoms: Vec<u16> = (0..named as u16).collect();
         random.shuffle(&mut atoms);
         let Some(prover) = make(random, &atoms[..used]) else { continue };
         let mut draft = Draft::new(names(named), prover.formulas, &[], prover.rows);
+        if !draft.confirm(|models| random.pick(models)) {
+            draft.close(random.pick(&atoms));
+        }
         draft.shuffle(random);
         if fits_a_file(&draft) {
             return draft;

@@ -1,9 +1,10 @@
 //! The second checker: the judgement of a whole text, with the five tables.
 
-use crate::formula::{Formula, FormulaSet, Formulas, Node};
+use crate::formula::{Atoms, Formula, FormulaSet, Formulas, Node};
 use crate::instance::{self, Step};
 use crate::line::{self, Line, Number, Row, Word};
 use crate::rules::ELK;
+use crate::semantics::in_equilibrium;
 use crate::sequent::{Kind, Sequent};
 use std::cell::Cell;
 
@@ -13,6 +14,7 @@ pub const MOST_FORMULAS: usize = 1_024;
 pub const MOST_ROWS: usize = 2_048;
 pub const MOST_ON_A_SIDE: usize = 64;
 pub const MOST_IN_A_POOL: usize = 16_384;
+pub const MOST_IN_A_MODEL: u32 = 16;
 
 /// What an absent field holds in a table.
 const ABSENT: u16 = 65_535;
@@ -33,6 +35,9 @@ pub enum Refusal {
     ClaimDiffers = 12,
     NoClaim = 13,
     NoRoom = 14,
+    ModelMissingOrUnwanted = 15,
+    ModelTooLarge = 16,
+    NotInEquilibrium = 17,
 }
 
 /// One thing for each of the five tables.
@@ -115,6 +120,7 @@ pub struct Derivation {
     pub formulas: Formulas,
     pub rows: Vec<(Kind, Sequent)>,
     pub written: Vec<WrittenRow>,
+    pub model: Option<Atoms>,
     pub claim: Sequent,
 }
 
@@ -175,7 +181,11 @@ fn accepted<'t>(
         let at_line = |refusal| (refusal, count);
         let body = line.strip_suffix(b"\n").ok_or(at_line(Refusal::BadLine))?;
         let line_read = line::read(body, start).ok_or(at_line(Refusal::BadLine))?;
-        claim = checker.take(line_read).map_err(at_line)?.map(|claim| (count, claim));
+        let taken = checker.take(count, line_read).map_err(at_line)?;
+        if let Some(claim) = &taken {
+            checker.confirm(count, claim)?;
+        }
+        claim = taken.map(|claim| (count, claim));
         start += line.len();
     }
     let (line, claim) = claim.ok_or((Refusal::NoClaim, count + 1))?;
@@ -188,7 +198,14 @@ enum Stage {
     Atoms,
     Formulas,
     Rows,
+    Modelled,
     Claimed,
+}
+
+/// What an M line says, and where it stands.
+struct Model {
+    line: usize,
+    atoms: Atoms,
 }
 
 struct StoredRow {
@@ -207,6 +224,7 @@ struct Checker<'t> {
     formulas: Formulas,
     numbered: Vec<Formula>,
     rows: Vec<StoredRow>,
+    model: Option<Model>,
     tables: Tables<Vec<u16>>,
 }
 
@@ -220,6 +238,7 @@ impl<'t> Checker<'t> {
             formulas: Formulas::default(),
             numbered: vec![],
             rows: vec![],
+            model: None,
             tables: Tables::default(),
         }
     }
@@ -227,7 +246,7 @@ impl<'t> Checker<'t> {
     /// Judges one line that is well written and takes it in; gives the claim if the
     /// line is one. In each kind of line the tests stand in the order of their
     /// numbers, so the smallest that applies is given.
-    fn take(&mut self, line: Line) -> Result<Option<Sequent>, Refusal> {
+    fn take(&mut self, place: usize, line: Line) -> Result<Option<Sequent>, Refusal> {
         match line {
             Line::Atom { number, name } => {
                 self.next_in_order(Stage::Atoms, number, self.names.len())?;
@@ -244,6 +263,11 @@ impl<'t> Checker<'t> {
                 self.take_row(row)?;
                 Ok(None)
             }
+            Line::Model { atoms } => {
+                self.in_order(Stage::Modelled)?;
+                self.model = Some(Model { line: place, atoms: self.atoms(&atoms)? });
+                Ok(None)
+            }
             Line::Claim { left, right } => {
                 self.in_order(Stage::Claimed)?;
                 Ok(Some(self.claim(&left, &right)?))
@@ -251,8 +275,10 @@ impl<'t> Checker<'t> {
         }
     }
 
+    /// A model and a claim come once.
     fn in_order(&mut self, stage: Stage) -> Result<(), Refusal> {
-        ensure(self.stage != Stage::Claimed && self.stage <= stage, Refusal::OutOfOrder)?;
+        let again = self.stage == stage && stage < Stage::Modelled;
+        ensure(self.stage < stage || again, Refusal::OutOfOrder)?;
         self.stage = stage;
         Ok(())
     }
@@ -318,9 +344,16 @@ impl<'t> Checker<'t> {
             side.iter().map(|&number| self.formula(number)).collect()
         };
         let (antecedent, succedent) = (set(left)?, set(right)?);
-        let in_order = |side: &[Number]| side.is_sorted_by(|a, b| a < b) && side.len() <= MOST_ON_A_SIDE;
-        ensure(in_order(left) && in_order(right), Refusal::BadSide)?;
+        ensure(well_ordered(left) && well_ordered(right), Refusal::BadSide)?;
         Ok(Sequent { antecedent, succedent })
+    }
+
+    /// The set of a list of atoms, if they all exist (7) and are in order (9).
+    fn atoms(&self, list: &[Number]) -> Result<Atoms, Refusal> {
+        let missing = |&number: &Number| number as usize >= self.names.len();
+        ensure(!list.iter().any(missing), Refusal::NoSuchItem)?;
+        ensure(well_ordered(list), Refusal::BadSide)?;
+        Ok(list.iter().map(|number| 1 << number).sum())
     }
 
     fn premises_fit(&self, row: &Row) -> Result<(), Refusal> {
@@ -387,6 +420,17 @@ impl<'t> Checker<'t> {
         Ok(claim)
     }
 
+    /// Asks of a claim that the last row derives whether it has the model that it wants:
+    /// else the number, with the model's line, or the claim's if there is none.
+    fn confirm(&self, line: usize, claim: &Sequent) -> Result<(), (Refusal, usize)> {
+        let line = self.model.as_ref().map_or(line, |model| model.line);
+        let require = |holds, otherwise| ensure(holds, otherwise).map_err(|refusal| (refusal, line));
+        require(claim.wants_model(&self.formulas) == self.model.is_some(), Refusal::ModelMissingOrUnwanted)?;
+        let Some(Model { atoms, .. }) = self.model else { return Ok(()) };
+        require(atoms.count_ones() <= MOST_IN_A_MODEL, Refusal::ModelTooLarge)?;
+        require(in_equilibrium(&self.formulas, atoms, &claim.antecedent), Refusal::NotInEquilibrium)
+    }
+
     /// The used part of each table, and the derivation.
     fn finished(self, claim: Sequent) -> (Tables<Vec<u16>>, Derivation) {
         let records = self.rows.iter().flat_map(|row| row.record).collect();
@@ -395,12 +439,18 @@ impl<'t> Checker<'t> {
         let names = self.names.iter().map(name).collect();
         let split = |row: StoredRow| ((row.kind, row.sequent), row.written);
         let (rows, written) = self.rows.into_iter().map(split).unzip();
-        (tables, Derivation { names, formulas: self.formulas, rows, written, claim })
+        let model = self.model.map(|model| model.atoms);
+        (tables, Derivation { names, formulas: self.formulas, rows, written, model, claim })
     }
 }
 
 fn ensure(holds: bool, otherwise: Refusal) -> Result<(), Refusal> {
     if holds { Ok(()) } else { Err(otherwise) }
+}
+
+/// Strictly rising, and not over the most.
+fn well_ordered(list: &[Number]) -> bool {
+    list.is_sorted_by(|a, b| a < b) && list.len() <= MOST_ON_A_SIDE
 }
 
 fn well_formed(name: &[u8]) -> bool {

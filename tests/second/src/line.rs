@@ -11,6 +11,7 @@ pub enum Line {
     Atom { number: Number, name: Range<usize> },
     Formula { number: Number, word: Word },
     Row { number: Number, row: Row },
+    Model { atoms: Vec<Number> },
     Claim { left: Vec<Number>, right: Vec<Number> },
 }
 
@@ -54,6 +55,7 @@ pub fn read(line: &[u8], start: usize) -> Option<Line> {
             };
             Some(Line::Row { number: number(own)?, row })
         }
+        [b"M", atoms] => Some(Line::Model { atoms: list(atoms)? }),
         [b"C", left, right] => Some(Line::Claim { left: list(left)?, right: list(right)? }),
         _ => None,
     }

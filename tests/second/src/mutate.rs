@@ -1,8 +1,8 @@
-//! Damage to texts: to bytes, lines, fields, numbers, sides, premises and rules, and
-//! growth up to the limits and beyond. Most of it leaves the text nearly right.
+//! Damage to texts: to bytes, lines, fields, numbers, sides, premises, rules and models,
+//! and growth up to the limits and beyond. Most of it leaves the text nearly right.
 
 use crate::draft::list;
-use crate::judge::{MOST_ATOMS, MOST_BYTES, MOST_FORMULAS, MOST_ROWS};
+use crate::judge::{MOST_ATOMS, MOST_BYTES, MOST_FORMULAS, MOST_IN_A_MODEL, MOST_ROWS};
 use crate::random::Random;
 use crate::rules::ELK;
 use std::collections::BTreeSet;
@@ -25,7 +25,7 @@ pub fn mutate(random: &mut Random, text: &[u8]) -> Vec<u8> {
 fn change_bytes(random: &mut Random, mut text: Vec<u8>) -> Vec<u8> {
     let at = random.below(text.len() + 1);
     let byte = match random.below(3) {
-        0 => random.pick(b"\t\n\r,-019 apANFC\0\xFF"),
+        0 => random.pick(b"\t\n\r,-019 apANFMC\0\xFF"),
         _ => random.word() as u8,
     };
     match random.below(4) {
@@ -55,6 +55,7 @@ fn change_fields(random: &mut Random, text: &[u8]) -> Vec<u8> {
         24..32 => change_row(random, &mut lines, change_premises),
         32..36 => change_row(random, &mut lines, change_principal),
         36..44 => change_last_row_and_claim(random, &mut lines),
+        44..52 => change_model(random, &mut lines),
         _ => change_row(random, &mut lines, change_side),
     }
     lines.iter().map(|fields| fields.join("\t") + "\n").collect::<String>().into_bytes()
@@ -153,29 +154,65 @@ fn change_premises(random: &mut Random, row: &mut [String], _: usize) {
     row[4] = list(&premises);
 }
 
-/// Puts a formula in or takes it out, mostly keeping the order.
 fn change_side(random: &mut Random, row: &mut [String], formulas: usize) {
     let at = row.len() - 1 - random.below(2);
-    let mut side = numbers(&row[at]);
+    toggle(random, &mut row[at], formulas);
+}
+
+/// Puts a number below `held` into a list, or takes it out; now and then one that isn't
+/// below, or out of order.
+fn toggle(random: &mut Random, field: &mut String, held: usize) {
+    let mut members = numbers(field);
     let beyond = usize::from(random.once_in(20));
-    let formula = random.below(formulas.max(1) + beyond);
-    match side.iter().position(|&held| held == formula) {
-        Some(place) => drop(side.remove(place)),
-        None => side.push(formula),
+    let number = random.below(held.max(1) + beyond);
+    match members.iter().position(|&member| member == number) {
+        Some(place) => drop(members.remove(place)),
+        None => members.push(number),
     }
     if !random.once_in(20) {
-        side.sort();
+        members.sort();
     }
-    row[at] = list(&side);
+    *field = list(&members);
 }
 
 /// Changes a side of the last row and claims what it then says.
 fn change_last_row_and_claim(random: &mut Random, lines: &mut Fields) {
     let formulas = lines.iter().filter(|fields| fields[0] == "F").count();
-    let [.., row, claim] = &mut lines[..] else { return };
+    let (row, claim) = match &mut lines[..] {
+        [.., row, model, claim] if is_model(model) => (row, claim),
+        [.., row, claim] => (row, claim),
+        _ => return,
+    };
     if is_row(row) {
         change_side(random, row, formulas);
         *claim = vec!["C".into(), row[5].clone(), row[6].clone()];
+    }
+}
+
+fn is_model(fields: &[String]) -> bool {
+    fields[0] == "M" && fields.len() == 2
+}
+
+/// Changes the model or its place, or puts one before the last line if there is none.
+fn change_model(random: &mut Random, lines: &mut Fields) {
+    let atoms = lines.iter().filter(|fields| fields[0] == "A").count();
+    let Some(at) = lines.iter().position(|fields| is_model(fields)) else {
+        let few: Vec<usize> = random.some_of(0..atoms.min(3));
+        lines.insert(lines.len() - 1, vec!["M".into(), list(&few)]);
+        return;
+    };
+    let most = MOST_IN_A_MODEL as usize;
+    if atoms > most && random.once_in(2) {
+        lines[at][1] = list(&(0..most + random.below(2)).collect::<Vec<_>>());
+        return;
+    }
+    let after = (at + 1) % lines.len();
+    match random.below(8) {
+        0 => drop(lines.remove(at)),
+        1 => lines.insert(at, lines[at].clone()),
+        2 => lines.swap(at, after),
+        3 => lines.swap(at, at.saturating_sub(1)),
+        _ => toggle(random, &mut lines[at][1], atoms),
     }
 }
 

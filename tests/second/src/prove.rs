@@ -10,7 +10,7 @@ use crate::formula::{Atoms, Formula, FormulaSet, Formulas, Node, rising, subsets
 use crate::instance::stability;
 use crate::random::Random;
 use crate::rules::{Bindings, ELK, Rule, SetName, Sets};
-use crate::semantics::{Interpretations, Pair};
+use crate::semantics::{Interpretations, Pair, equilibrium_models, satisfies};
 use crate::sequent::{Kind, Sequent};
 use std::collections::HashMap;
 
@@ -78,18 +78,13 @@ impl Prover {
     /// model that isn't empty: by one `unst` at the root.
     pub fn prove_unstable(&mut self, goal: &Sequent) -> Option<usize> {
         let atoms = self.formulas.atoms_of(&goal.antecedent);
-        let models = Interpretations::over(&self.formulas, atoms).equilibrium_models(&goal.antecedent);
-        let there = subsets(atoms).find(|&t| t != 0 && self.satisfied(t, t, &goal.antecedent))?;
+        let models = equilibrium_models(&self.formulas, &goal.antecedent);
+        let there = subsets(atoms).find(|&t| t != 0 && satisfies(&self.formulas, t, t, &goal.antecedent))?;
         models.is_empty().then(|| self.unstable(goal, there))
     }
 
     fn atoms(&self, sequent: &Sequent) -> Atoms {
         self.formulas.atoms_of(sequent.antecedent.iter().chain(&sequent.succedent))
-    }
-
-    fn satisfied(&self, here: Atoms, there: Atoms, set: &FormulaSet) -> bool {
-        let mut pair = Pair::new(here, there);
-        set.iter().all(|&f| pair.holds(&self.formulas, f))
     }
 
     /// left => right, where left holds M of `there` for the atoms not in `open`.
@@ -145,7 +140,7 @@ impl Prover {
     fn unstable(&mut self, goal: &Sequent, there: Atoms) -> usize {
         let atoms = self.formulas.atoms_of(&goal.antecedent);
         let here = subsets(there)
-            .find(|&h| h != there && self.satisfied(h, there, &goal.antecedent))
+            .find(|&h| h != there && satisfies(&self.formulas, h, there, &goal.antecedent))
             .expect("a model that is no equilibrium model has a smaller pair");
         let mut sets = stability(&mut self.formulas, atoms, there);
         sets.insert(SetName::L, goal.antecedent.clone());

@@ -112,6 +112,24 @@ impl<'a> Interpretations<'a> {
     }
 }
 
+/// Does the pair (H,T) satisfy every formula of a set?
+pub fn satisfies(formulas: &Formulas, here: Atoms, there: Atoms, set: &FormulaSet) -> bool {
+    let mut pair = Pair::new(here, there);
+    set.iter().all(|&f| pair.holds(formulas, f))
+}
+
+/// Is T an equilibrium model of a set? Its proper parts are tried as far as the first that
+/// upsets it.
+pub fn in_equilibrium(formulas: &Formulas, there: Atoms, set: &FormulaSet) -> bool {
+    let mut parts = subsets(there).filter(|&here| here != there);
+    satisfies(formulas, there, there, set) && !parts.any(|here| satisfies(formulas, here, there, set))
+}
+
+/// Every equilibrium model of a set. None has an atom that does not occur in the set.
+pub fn equilibrium_models(formulas: &Formulas, set: &FormulaSet) -> Vec<Atoms> {
+    Interpretations::over(formulas, formulas.atoms_of(set)).equilibrium_models(set)
+}
+
 /// Is what a row says true, over the atoms that occur in it?
 pub fn true_row(formulas: &Formulas, kind: Kind, sequent: &Sequent) -> bool {
     let atoms = formulas.atoms_of(sequent.antecedent.iter().chain(&sequent.succedent));
@@ -163,6 +181,11 @@ mod tests {
             let mut found = Interpretations::over(&formulas, atoms).equilibrium_models(&sheet_set);
             found.sort();
             assert_eq!(found, expected, "equilibrium models of {sheet}");
+            let one_by_one = subsets(atoms).filter(|&there| in_equilibrium(&formulas, there, &sheet_set));
+            assert_eq!(one_by_one.collect::<Vec<_>>(), expected, "equilibrium models of {sheet}, each alone");
+            let mut occurring = equilibrium_models(&formulas, &sheet_set);
+            occurring.sort();
+            assert_eq!(occurring, expected, "equilibrium models of {sheet} over its atoms");
         }
     }
 

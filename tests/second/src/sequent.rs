@@ -1,6 +1,6 @@
 //! Sequents: what rows and claims speak of.
 
-use crate::formula::FormulaSet;
+use crate::formula::{FormulaSet, Formulas, Node};
 
 /// What a row speaks of: entailment, or a countermodel of it.
 #[derive(Clone, Copy, Debug, Eq, Hash, PartialEq)]
@@ -14,4 +14,12 @@ pub enum Kind {
 pub struct Sequent {
     pub antecedent: FormulaSet,
     pub succedent: FormulaSet,
+}
+
+impl Sequent {
+    /// Does a claim of this want a model? Not if the right is empty or holds only `#`: that
+    /// reports a contradiction.
+    pub fn wants_model(&self, formulas: &Formulas) -> bool {
+        self.succedent.iter().any(|&f| formulas.node(f) != Node::Falsum)
+    }
 }

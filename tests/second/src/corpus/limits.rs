@@ -6,12 +6,12 @@ use crate::draft::list;
 use crate::judge::{MOST_ATOMS, MOST_BYTES, MOST_FORMULAS, MOST_IN_A_POOL, MOST_ON_A_SIDE, MOST_ROWS};
 
 /// So many atoms a0, a1, ...
-fn atoms(count: usize) -> String {
+pub fn atoms(count: usize) -> String {
     (0..count).map(|k| format!("A\t{k}\ta{k}\n")).collect()
 }
 
 /// A formula for each of so many atoms, by the same number.
-fn atom_formulas(count: usize) -> String {
+pub fn atom_formulas(count: usize) -> String {
     (0..count).map(|k| format!("F\t{k}\tatom\t{k}\t-\n")).collect()
 }
 
@@ -68,11 +68,11 @@ impl Pool {
         format!("N\t{number}\tsame\t0\t-\t{}", self.sides(here, across))
     }
 
-    /// Rows that hold so many entries here, and the count of rows: # => #, rows with 64,
-    /// and one with the rest.
+    /// Rows that hold so many entries here, and the count of rows: rows with 64, one with
+    /// the rest, and # => #, which can be claimed without a model.
     fn filled(self, entries: usize) -> (String, usize) {
         let (wide, rest) = ((entries - 1) / MOST_ON_A_SIDE, (entries - 1) % MOST_ON_A_SIDE);
-        let lengths = [vec![1], vec![MOST_ON_A_SIDE; wide], vec![rest]].concat();
+        let lengths = [vec![MOST_ON_A_SIDE; wide], vec![rest], vec![1]].concat();
         let rows = lengths.iter().enumerate().map(|(k, &length)| self.row(k, &up_to(length), "0"));
         (rows.collect(), lengths.len())
     }
@@ -91,14 +91,13 @@ pub fn cases() -> Vec<Case> {
     let mut limit = |name: &str, number: u16, text: String| {
         cases.push(raw(&format!("limits/{name}"), number, text.lines().count(), text));
     };
-    let all = up_to(MOST_ON_A_SIDE);
     let claim = "C\t0\t0\n";
 
-    limit("64_atoms", 0, full_atoms() + &atom_formulas(64) + &tabbed("N 0 same 63 - 63 63 / C 63 63"));
+    limit("64_atoms", 0, full_atoms() + &atom_formulas(64) + &tabbed("N 0 same 63 - 63 63 / M 63 / C 63 63"));
     limit("65_atoms", 5, full_atoms() + "A\t64\ta64\n");
     limit("atom_63_in_unst", 0, full_atoms() + &tabbed(UNST_ON_ATOM_63));
     limit("unst_over_64_atoms", 0, unst_over_all_atoms());
-    limit("1024_formulas", 0, full_formulas() + &tabbed("N 0 same 1023 - 1023 1023 / C 1023 1023"));
+    limit("1024_formulas", 0, full_formulas() + &tabbed("N 0 same 1023 - 1023 1023 / M - / C 1023 1023"));
     limit("1025_formulas", 5, full_formulas() + "F\t1024\tnot\t1023\t-\n");
     limit("2048_rows", 0, full_rows() + claim);
     limit("2049_rows", 5, full_rows() + "N\t2048\tsame\t0\t-\t0\t0\n");
@@ -108,11 +107,12 @@ pub fn cases() -> Vec<Case> {
 
     let formulas = negations(MOST_ON_A_SIDE + 1);
     let over = up_to(MOST_ON_A_SIDE + 1);
-    limit(
-        "64_on_each_side",
-        0,
-        formulas.clone() + &tabbed(&format!("N 0 same 0 - {all} {all} / C {all} {all}")),
-    );
+    limit("64_on_each_side", 0, {
+        // An odd number of ~ before # makes a truth.
+        let truths = list(&(0..MOST_ON_A_SIDE).map(|k| 2 * k + 1).collect::<Vec<_>>());
+        negations(2 * MOST_ON_A_SIDE)
+            + &tabbed(&format!("N 0 same 1 - {truths} {truths} / M - / C {truths} {truths}"))
+    });
     limit("65_on_the_left", 9, formulas.clone() + &tabbed(&format!("N 0 same 0 - {over} 0")));
     limit("65_on_the_right", 9, formulas.clone() + &tabbed(&format!("N 0 same 0 - 0 {over}")));
     limit(
@@ -130,16 +130,15 @@ pub fn cases() -> Vec<Case> {
         negations(1) + &tabbed(&format!("N 0 same 0 - 0 0 / N 1 wr 0 {premises} 0 0"))
     });
 
-    let last = up_to(MOST_ON_A_SIDE - 1);
-    limit("16384_entries_left", 0, full_left_pool() + &tabbed(&format!("C {last} 0")));
+    limit("16384_entries_left", 0, full_left_pool() + claim);
     limit("16385_entries_left", 5, full_left_pool() + "N\t257\tsame\t0\t-\t0\t0\n");
     limit("16384_entries_left_and_a_row_without_left", 0, {
-        full_left_pool() + &tabbed("N 257 notr 1 0 - 0,1 / C - 0,1")
+        full_left_pool() + &tabbed("N 257 notr 1 256 - 0,1 / M - / C - 0,1")
     });
-    limit("16384_entries_right", 0, full_right_pool() + &tabbed(&format!("C 0 {last}")));
+    limit("16384_entries_right", 0, full_right_pool() + claim);
     limit("16385_entries_right", 5, full_right_pool() + "N\t257\tsame\t0\t-\t0\t0\n");
     limit("16384_entries_right_and_a_row_without_right", 0, {
-        full_right_pool() + &tabbed("N 257 bot 0 0 0 - / C 0 -")
+        full_right_pool() + &tabbed("N 257 bot 0 256 0 - / C 0 -")
     });
 
     cases.extend([Pool::Left, Pool::Right].into_iter().flat_map(long_sides));
@@ -297,6 +296,6 @@ fn deep_formulas() -> Vec<Case> {
     deep("unst_overlooks_an_atom_a_thousand_deep", 11, &tabbed(Q_OVERLOOKED));
     let down = (12..=1022).map(|k| format!("N\t{}\tandl\t{k}\t{}\t{k}\t6\n", k - 11, k - 12));
     let down: String = down.collect();
-    deep("andl_a_thousand_times", 0, &format!("N\t0\tsame\t6\t-\t6\t6\n{down}C\t1022\t6\n"));
+    deep("andl_a_thousand_times", 0, &format!("N\t0\tsame\t6\t-\t6\t6\n{down}M\t0,1\nC\t1022\t6\n"));
     cases
 }

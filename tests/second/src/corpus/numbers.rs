@@ -11,7 +11,8 @@ const MARKED: &str = "A 0{first_atom} p / A 1{second_atom} q / F 0{first_formula
     N 0{first_row} same 0{principal_0} - 0{left_0} 0{right_0} / \
     N 1{second_row} wr 1{principal_1} 0{premise_0} 0 0,1{right_last} / \
     N 2 same 1 - 0,1{left_last} 1{right_1} / N 3 same 0 - 0 0,1 / \
-    N 4 rcut 0 3{premise_first},1{premise_second} 0 0,1 / C 0{claim_left} 0,1{claim_right}";
+    N 4 rcut 0 3{premise_first},1{premise_second} 0 0,1 / N 5 same 1 - 0,1 0,1 / \
+    M 0{model_0},1{model_last} / C 0,1{claim_left} 0,1{claim_right}";
 
 /// Own numbers earn 4 where they are well written, references 7.
 const OWN: [&str; 6] =

@@ -4,34 +4,39 @@
 //! premises are counted among these lines from 0. `prove left => right` and `refute
 //! left ; right` stand for as many rows as it takes, the last of which is meant by
 //! the line's number. `atoms` and `also`, both first, give the order of atoms (else
-//! that of the alphabet) and formulas to be numbered first.
+//! that of the alphabet) and formulas to be numbered first. `model` gives the atoms of
+//! the M line, `-` for none.
 
 use super::Case;
 use crate::draft::{Draft, DraftRow};
-use crate::formula::{Formula, Formulas};
+use crate::formula::{Atoms, Formula, Formulas};
 use crate::notation;
 use crate::prove::Prover;
 use crate::random::Random;
 use crate::rules::ELK;
 use crate::sequent::Kind;
 
-/// A case in which every row is accepted and the last one is claimed. A derivation
-/// that ends in a refutation gets one more row to claim.
+/// A case in which every row is accepted and the last one is claimed, with the least
+/// model that it has if it wants one and none is given. A derivation that ends in a
+/// refutation, or in a sequent that no model confirms, gets one more row to claim.
 pub fn accepted(name: &str, rows: &str) -> Option<Case> {
-    let closed = format!("{rows}\nsame c - c => c");
-    let draft = draft(rows)?;
-    let draft = match draft.rows.last()?.kind() {
-        Kind::Elk => draft,
-        Kind::Refutation => self::draft(&closed)?,
-    };
-    let lines = draft.names.len() + draft.listed.len() + draft.rows.len() + 1;
-    Some(super::raw(name, 0, lines, draft.text()))
+    let least = |models: &[Atoms]| *models.iter().min().expect("a model to choose");
+    let mut draft = draft(rows)?;
+    if draft.model.is_none() && !draft.confirm(least) {
+        draft = self::draft(&format!("{rows}\nsame c - c => c"))?;
+        draft.confirm(least);
+    }
+    let text = draft.text();
+    let lines = text.iter().filter(|&&byte| byte == b'\n').count();
+    Some(super::raw(name, 0, lines, text))
 }
 
-/// A case in which the last row, and no earlier one, earns this number.
+/// A case in which the last row, and no earlier one, earns this number; or, from 15 on, the
+/// line after it: the model's, or the claim's if there is no model.
 pub fn refused(name: &str, number: u16, rows: &str) -> Option<Case> {
     let draft = draft(rows)?;
-    let line = draft.names.len() + draft.listed.len() + draft.rows.len();
+    let rows = draft.names.len() + draft.listed.len() + draft.rows.len();
+    let line = if number < 15 { rows } else { rows + 1 };
     Some(super::raw(name, number, line, draft.text()))
 }
 
@@ -45,12 +50,13 @@ fn draft(text: &str) -> Option<Draft> {
         prover: Prover::new(Formulas::default(), Random::new(1)),
         first: vec![],
         made: vec![],
+        model: None,
     };
     for words in &lines {
         reader.line(words)?;
     }
-    let Reader { prover, first, .. } = reader;
-    Some(Draft::new(names, prover.formulas, &first, prover.rows))
+    let Reader { prover, first, model, .. } = reader;
+    Some(Draft { model, ..Draft::new(names, prover.formulas, &first, prover.rows) })
 }
 
 fn atom_names(lines: &[Vec<&str>]) -> Vec<String> {
@@ -75,6 +81,7 @@ struct Reader<'a> {
     prover: Prover,
     first: Vec<Formula>,
     made: Vec<usize>,
+    model: Option<Atoms>,
 }
 
 impl Reader<'_> {
@@ -90,6 +97,11 @@ impl Reader<'_> {
             ["also", side] => {
                 let parts = side.split(',');
                 self.first.extend(parts.map(|part| notation::formula(formulas, part, &mut atom)));
+                return Some(());
+            }
+            ["model", atoms] => {
+                let parts = atoms.split(',').filter(|_| atoms != "-");
+                self.model = Some(parts.map(|name| 1 << atom(name)).sum());
                 return Some(());
             }
             ["prove" | "refute", left, sign, right] => {

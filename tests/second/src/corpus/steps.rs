@@ -512,6 +512,7 @@ accepted atoms_of_the_file_outside_the_antecedent
     prove ~~p => p
     refute ~~p ; p|~p
     unst - 0,1 ~~p => q
+    same q - q => q
 refused 11 v_from_the_file
     atoms p,q
     prove ~~p => p&~q

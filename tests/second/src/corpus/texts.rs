@@ -2,37 +2,37 @@
 
 use super::{Case, plain, raw, tabbed};
 
-/// An accepted file of four lines, one of each kind.
-const SMALL: &str = "A 0 p / F 0 atom 0 - / N 0 same 0 - 0 0 / C 0 0";
+/// An accepted file of five lines, one of each kind.
+const SMALL: &str = "A 0 p / F 0 atom 0 - / N 0 same 0 - 0 0 / M 0 / C 0 0";
 
 pub fn cases() -> Vec<Case> {
     let mut cases = vec![
-        plain("form/one_line_of_each_kind", 0, 4, SMALL),
+        plain("form/one_line_of_each_kind", 0, 5, SMALL),
         raw("form/text_is_one_lf", 3, 1, "\n"),
         raw("form/text_is_one_tab", 3, 1, "\t"),
         raw("form/text_is_one_letter", 3, 1, "A"),
         raw("form/no_lf_after_the_only_line", 3, 1, "A\t0\tp"),
-        raw("form/no_lf_after_claim", 3, 4, tabbed(SMALL).trim_end()),
+        raw("form/no_lf_after_claim", 3, 5, tabbed(SMALL).trim_end()),
         raw("form/no_lf_after_a_refused_claim", 3, 1, "C\t-\t-"),
         raw("form/no_lf_after_a_row", 3, 3, tabbed("A 0 p / F 0 atom 0 - / N 0 same 0 - 0 0").trim_end()),
-        raw("form/no_lf_after_a_line_after_claim", 3, 5, tabbed(SMALL) + "A\t1\tq"),
-        raw("form/one_letter_after_claim", 3, 5, tabbed(SMALL) + "C"),
-        raw("form/empty_line_after_claim", 3, 5, tabbed(SMALL) + "\n"),
+        raw("form/no_lf_after_a_line_after_claim", 3, 6, tabbed(SMALL) + "A\t1\tq"),
+        raw("form/one_letter_after_claim", 3, 6, tabbed(SMALL) + "C"),
+        raw("form/empty_line_after_claim", 3, 6, tabbed(SMALL) + "\n"),
         raw("form/empty_line_first", 3, 1, format!("\n{}", tabbed(SMALL))),
         raw("form/empty_line_between", 3, 2, tabbed(SMALL).replacen('\n', "\n\n", 1)),
         raw("form/spaces_for_tabs", 3, 1, "A 0 p\nC - -\n"),
-        raw("form/zero_byte_after_claim", 3, 5, tabbed(SMALL) + "\0"),
+        raw("form/zero_byte_after_claim", 3, 6, tabbed(SMALL) + "\0"),
         raw("form/zero_byte_after_formula_word", 3, 2, tabbed(SMALL).replace("atom", "atom\0")),
         raw("form/zero_byte_after_rule_word", 3, 3, tabbed(SMALL).replace("same", "same\0")),
-        raw("form/zero_byte_after_kind", 3, 4, tabbed(SMALL).replace("C\t", "C\0\t")),
+        raw("form/zero_byte_after_kind", 3, 5, tabbed(SMALL).replace("C\t", "C\0\t")),
         raw("form/zero_byte_in_number", 3, 3, tabbed(SMALL).replace("N\t0\t", "N\t0\0\t")),
         raw("form/byte_order_mark_first", 3, 1, format!("\u{feff}{}", tabbed(SMALL))),
         raw("form/cr_for_lf", 3, 1, tabbed(SMALL).replace('\n', "\r")),
         raw("form/cr_before_every_lf", 6, 1, tabbed(SMALL).replace('\n', "\r\n")),
         raw("form/cr_before_lf_of_formula", 3, 2, tabbed(SMALL).replace("-\nN", "-\r\nN")),
-        raw("form/cr_before_lf_of_row", 3, 3, tabbed(SMALL).replace("0\nC", "0\r\nC")),
-        raw("form/cr_before_lf_of_claim", 3, 4, tabbed(SMALL).trim_end().to_string() + "\r\n"),
-        raw("form/space_before_lf_of_claim", 3, 4, tabbed(SMALL).trim_end().to_string() + " \n"),
+        raw("form/cr_before_lf_of_row", 3, 3, tabbed(SMALL).replace("0\nM", "0\r\nM")),
+        raw("form/cr_before_lf_of_claim", 3, 5, tabbed(SMALL).trim_end().to_string() + "\r\n"),
+        raw("form/space_before_lf_of_claim", 3, 5, tabbed(SMALL).trim_end().to_string() + " \n"),
         raw("form/byte_over_127_in_kind", 3, 1, b"\xC1\t0\tp\n".to_vec()),
         raw("form/byte_over_127_in_number", 3, 1, b"A\t\xB0\tp\n".to_vec()),
         raw("form/byte_over_127_in_word", 3, 2, b"A\t0\tp\nF\t0\tato\xED\t0\t-\n".to_vec()),
@@ -148,12 +148,12 @@ const ORDER: Table = &[
     ("order/row_number_again", 4, 2, "N 0 xini - - - - / N 0 xini - - - -"),
     ("order/row_number_left_out", 4, 2, "N 0 xini - - - - / N 2 xini - - - -"),
     ("order/rows_numbered_on_from_formulas", 4, 2, "F 0 bot - - / N 1 same 0 - 0 0"),
-    ("order/atom_after_claim", 4, 5, "A 0 p / F 0 atom 0 - / N 0 same 0 - 0 0 / C 0 0 / A 1 q"),
-    ("order/formula_after_claim", 4, 5, "A 0 p / F 0 atom 0 - / N 0 same 0 - 0 0 / C 0 0 / F 1 bot - -"),
-    ("order/row_after_claim", 4, 5, "A 0 p / F 0 atom 0 - / N 0 same 0 - 0 0 / C 0 0 / N 1 same 0 - 0 0"),
-    ("order/claim_after_claim", 4, 5, "A 0 p / F 0 atom 0 - / N 0 same 0 - 0 0 / C 0 0 / C 0 0"),
-    ("order/other_claim_after_claim", 4, 5, "A 0 p / F 0 atom 0 - / N 0 same 0 - 0 0 / C 0 0 / C - -"),
-    ("order/unknown_kind_after_claim", 3, 5, "A 0 p / F 0 atom 0 - / N 0 same 0 - 0 0 / C 0 0 / D 0 0"),
+    ("order/atom_after_claim", 4, 6, "A 0 p / F 0 atom 0 - / N 0 same 0 - 0 0 / M 0 / C 0 0 / A 1 q"),
+    ("order/formula_after_claim", 4, 6, "A 0 p / F 0 atom 0 - / N 0 same 0 - 0 0 / M 0 / C 0 0 / F 1 bot - -"),
+    ("order/row_after_claim", 4, 6, "A 0 p / F 0 atom 0 - / N 0 same 0 - 0 0 / M 0 / C 0 0 / N 1 same 0 - 0 0"),
+    ("order/claim_after_claim", 4, 6, "A 0 p / F 0 atom 0 - / N 0 same 0 - 0 0 / M 0 / C 0 0 / C 0 0"),
+    ("order/other_claim_after_claim", 4, 6, "A 0 p / F 0 atom 0 - / N 0 same 0 - 0 0 / M 0 / C 0 0 / C - -"),
+    ("order/unknown_kind_after_claim", 3, 6, "A 0 p / F 0 atom 0 - / N 0 same 0 - 0 0 / M 0 / C 0 0 / D 0 0"),
     ("order/early_claim_is_judged_first", 12, 1, "C - - / A 0 p"),
 ];
 
@@ -217,9 +217,9 @@ const AGAIN: Table = &[
     ("again/or", 8, 3, "F 0 bot - - / F 1 or 0 0 / F 2 or 0 0"),
     ("again/imp", 8, 3, "F 0 bot - - / F 1 imp 0 0 / F 2 imp 0 0"),
     ("again/after_many_others", 8, 6, "F 0 bot - - / F 1 not 0 - / F 2 not 1 - / F 3 not 2 - / F 4 and 0 1 / F 5 not 0 -"),
-    ("again/operands_exchanged_make_another", 0, 6, "F 0 bot - - / F 1 not 0 - / F 2 and 0 1 / F 3 and 1 0 / N 0 same 3 - 3 3 / C 3 3"),
-    ("again/other_words_make_others", 0, 7, "F 0 bot - - / F 1 and 0 0 / F 2 or 0 0 / F 3 imp 0 0 / F 4 not 0 - / N 0 same 4 - 4 4 / C 4 4"),
-    ("again/atom_and_not_of_the_same_number", 0, 5, "A 0 p / F 0 atom 0 - / F 1 not 0 - / N 0 same 1 - 1 1 / C 1 1"),
+    ("again/operands_exchanged_make_another", 0, 6, "F 0 bot - - / F 1 not 0 - / F 2 and 0 1 / F 3 and 1 0 / N 0 same 0 - 0,3 0 / C 0,3 0"),
+    ("again/other_words_make_others", 0, 8, "F 0 bot - - / F 1 and 0 0 / F 2 or 0 0 / F 3 imp 0 0 / F 4 not 0 - / N 0 same 4 - 4 4 / M - / C 4 4"),
+    ("again/atom_and_not_of_the_same_number", 0, 6, "A 0 p / F 0 atom 0 - / F 1 not 0 - / N 0 same 1 - 1 1 / M - / C 1 1"),
 ];
 
 #[rustfmt::skip]
@@ -233,7 +233,7 @@ const SIDES: Table = &[
     ("sides/claim_right_repeats", 9, 3, "F 0 bot - - / N 0 same 0 - 0 0 / C 0 0,0"),
     ("sides/claim_left_falls", 9, 4, "F 0 bot - - / F 1 not 0 - / N 0 same 0 - 0,1 0 / C 1,0 0"),
     ("sides/claim_right_falls", 9, 4, "F 0 bot - - / F 1 not 0 - / N 0 same 0 - 0 0,1 / C 0 1,0"),
-    ("sides/premises_may_fall_and_repeat", 0, 8, "F 0 bot - - / F 1 not 0 - / F 2 and 0 1 / N 0 same 0 - 0 0,1 / N 1 same 0 - 0 0 / N 2 andr 2 1,0 0 0,2 / N 3 andr 2 0,0 0 0,1,2 / C 0 0,1,2"),
+    ("sides/premises_may_fall_and_repeat", 0, 10, "A 0 p / F 0 atom 0 - / F 1 not 0 - / F 2 and 0 1 / N 0 same 0 - 0 0,1 / N 1 same 0 - 0 0 / N 2 andr 2 1,0 0 0,2 / N 3 andr 2 0,0 0 0,1,2 / M 0 / C 0 0,1,2"),
 ];
 
 #[rustfmt::skip]
@@ -247,8 +247,8 @@ const CLAIMS: Table = &[
     ("claims/an_earlier_row", 12, 6, "A 0 p / F 0 atom 0 - / F 1 bot - - / N 0 same 0 - 0 0 / N 1 wr 1 0 0 0,1 / C 0 0"),
     ("claims/an_earlier_row_before_a_refutation", 12, 5, "A 0 p / F 0 atom 0 - / N 0 same 0 - 0 0 / N 1 xini - - - 0 / C 0 0"),
     ("claims/refutation_with_exactly_these_sides", 12, 5, "A 0 p / F 0 atom 0 - / N 0 same 0 - 0 0 / N 1 xini - - - 0 / C - 0"),
-    ("claims/of_the_last_of_repeated_rows", 0, 5, "A 0 p / F 0 atom 0 - / N 0 same 0 - 0 0 / N 1 same 0 - 0 0 / C 0 0"),
-    ("claims/of_a_row_after_unused_rows", 0, 6, "A 0 p / F 0 atom 0 - / N 0 xini - - 0 - / N 1 xini - - - 0 / N 2 same 0 - 0 0 / C 0 0"),
+    ("claims/of_the_last_of_repeated_rows", 0, 6, "A 0 p / F 0 atom 0 - / N 0 same 0 - 0 0 / N 1 same 0 - 0 0 / M 0 / C 0 0"),
+    ("claims/of_a_row_after_unused_rows", 0, 7, "A 0 p / F 0 atom 0 - / N 0 xini - - 0 - / N 1 xini - - - 0 / N 2 same 0 - 0 0 / M 0 / C 0 0"),
     ("claims/absent_after_atoms", 13, 3, "A 0 p / A 1 q"),
     ("claims/absent_after_formulas", 13, 3, "A 0 p / F 0 atom 0 -"),
     ("claims/absent_after_rows", 13, 4, "A 0 p / F 0 atom 0 - / N 0 same 0 - 0 0"),

@@ -292,13 +292,14 @@ const EVERY_RULE: &str = "
 const NAMES_LIKE_WORDS: &str = "A 0 not / A 1 contradiction / A 2 and / A 3 or / A 4 if / A 5 then / A 6 row / \
     F 0 atom 0 - / F 1 not 0 - / F 2 atom 1 - / F 3 bot - - / F 4 atom 2 - / F 5 and 4 4 / F 6 atom 3 - / \
     F 7 or 6 6 / F 8 atom 4 - / F 9 atom 5 - / F 10 imp 8 9 / F 11 atom 6 - / \
-    N 0 same 1 - 0,1,2,3 1,5,7,10,11 / C 0,1,2,3 1,5,7,10,11";
+    N 0 same 1 - 0,1,2,3 1,5,7,10,11 / N 1 same 0 - 0 0 / M 0 / C 0 0";
 
 const NAMES_LIKE_WORDS_TOLD: &str = r#"Row 0: a given formula is itself one of the alternatives; about the formula not "not"; from no other row; if these are all that is given: "not", not "not", "contradiction", contradiction; then in every equilibrium model at least one of these alternatives holds: not "not", ("and" and "and"), ("or" or "or"), (if "if" then "then"), "row".
+Row 1: a given formula is itself one of the alternatives; about the formula "not"; from no other row; if these are all that is given: "not"; then in every equilibrium model at least one of these alternatives holds: "not".
 "#;
 
 const LONG_NAMES: &str = "A 0 abcdefghijklmnopqrstuvwx / A 1 y0123456789_0123456789__ / A 2 z / \
-    F 0 atom 2 - / F 1 atom 1 - / F 2 atom 0 - / N 0 same 2 - 1,2 0,2 / C 1,2 0,2";
+    F 0 atom 2 - / F 1 atom 1 - / F 2 atom 0 - / N 0 same 2 - 1,2 0,2 / M 0,1 / C 1,2 0,2";
 
 const LONG_NAMES_TOLD: &str = r#"Row 0: a given formula is itself one of the alternatives; about the formula "abcdefghijklmnopqrstuvwx"; from no other row; if these are all that is given: "y0123456789_0123456789__", "abcdefghijklmnopqrstuvwx"; then in every equilibrium model at least one of these alternatives holds: "z", "abcdefghijklmnopqrstuvwx".
 "#;
@@ -330,7 +331,7 @@ fn atoms(names: &[String]) -> String {
 fn sixty_four_on_each_side() -> String {
     let names: Vec<String> = (0..MOST_ATOMS).map(|k| format!("side_{k}")).collect();
     let all = up_to(MOST_ON_A_SIDE);
-    atoms(&names) + &tabbed(&format!("N 0 same 63 - {all} {all} / C {all} {all}"))
+    atoms(&names) + &tabbed(&format!("N 0 same 63 - {all} {all} / N 1 same 0 - 0 0 / M 0 / C 0 0"))
 }
 
 /// A text whose words have exactly so many bytes. Row 0 has 63 atoms on its left, whose
@@ -345,10 +346,10 @@ fn words_of(bytes: usize) -> String {
         };
         let names: Vec<String> = (0..MOST_ATOMS - 1).map(name).collect();
         assert_eq!(spare, 0, "names that make up for it");
-        let doubled = "F 63 bot - - / F 64 and 63 63 / F 65 and 64 64 / F 66 and 65 65 / F 67 and 66 66";
+        let doubled = "F 63 bot - - / F 64 not 63 - / F 65 and 64 64 / F 66 and 65 65 / F 67 and 66 66";
         let first = format!("N 0 same 63 - {} 63", up_to(MOST_ON_A_SIDE));
         let wide = (1..=wide_rows).map(|k| format!("N\t{k}\tsame\t67\t-\t67\t67\n"));
-        atoms(&names) + &tabbed(doubled) + &tabbed(&first) + &wide.collect::<String>() + "C\t67\t67\n"
+        atoms(&names) + &tabbed(doubled) + &tabbed(&first) + &wide.collect::<String>() + "M\t-\nC\t67\t67\n"
     };
     let first = told(&text(0, 0)).len();
     let without_number = told(&text(1, 0)).len() - first - "1".len();
@@ -368,7 +369,7 @@ fn chain(line: impl Fn(usize) -> String) -> String {
 }
 
 fn deep_formulas() -> Vec<Case> {
-    let row = tabbed("N 0 same 1023 - 1023 1023 / C 1023 1023");
+    let row = tabbed("N 0 same 1023 - 1023 1023");
     let told = |formula: String| {
         format!(
             "Row 0: a given formula is itself one of the alternatives; about the formula {formula}; \
@@ -381,11 +382,17 @@ fn deep_formulas() -> Vec<Case> {
     let rightwards = told(times("(if \"p\" then ") + "\"p\"" + &times(")"));
     let leftwards = told(times("(if ") + "\"p\"" + &times(" then \"p\")"));
     let conjoined = told(times("(") + "\"p\"" + &times(" and \"p\")"));
+    // As a sheet, the first means ~p, the next two nothing, and the last p.
+    let [nothing, p] = ["M - / C 1023 1023", "M 0 / C 1023 1023"].map(|end| row.clone() + &tabbed(end));
     vec![
-        printed("1023_negations", chain(|last| format!("not {last} -")) + &row, negated),
-        printed("1023_implications_to_the_right", chain(|last| format!("imp 0 {last}")) + &row, rightwards),
-        printed("1023_implications_to_the_left", chain(|last| format!("imp {last} 0")) + &row, leftwards),
-        printed("1023_conjunctions_to_the_left", chain(|last| format!("and {last} 0")) + &row, conjoined),
+        printed("1023_negations", chain(|last| format!("not {last} -")) + &nothing, negated),
+        printed(
+            "1023_implications_to_the_right",
+            chain(|last| format!("imp 0 {last}")) + &nothing,
+            rightwards,
+        ),
+        printed("1023_implications_to_the_left", chain(|last| format!("imp {last} 0")) + &nothing, leftwards),
+        printed("1023_conjunctions_to_the_left", chain(|last| format!("and {last} 0")) + &p, conjoined),
     ]
 }
 
@@ -393,24 +400,26 @@ fn deep_formulas() -> Vec<Case> {
 /// one part only. Lengths that wrap around at a power of 2 would be small.
 fn shared_parts() -> Vec<Case> {
     let doubled = chain(|last| format!("and {last} {last}"));
+    // The last word is `imp`, so that formula 1023 holds everywhere.
     let mixed = chain(|last| match last % 4 {
-        0 => format!("imp {last} {last}"),
-        1 => format!("not {last} -"),
-        2 => format!("or {last} {last}"),
-        _ => format!("and {last} {last}"),
+        0 => format!("or {last} {last}"),
+        1 => format!("and {last} {last}"),
+        2 => format!("imp {last} {last}"),
+        _ => format!("not {last} -"),
     });
-    let on_both_sides = tabbed("N 0 same 1023 - 1023 1023 / C 1023 1023");
-    let added_last = tabbed("N 0 same 0 - 0 0 / N 1 same 0 - 0 0 / N 2 wr 1023 1 0 0,1023 / C 0 0,1023");
+    let on_both_sides = |model: &str| tabbed(&format!("N 0 same 1023 - 1023 1023 / M {model} / C 1023 1023"));
+    let added_last =
+        tabbed("N 0 same 0 - 0 0 / N 1 same 0 - 0 0 / N 2 wr 1023 1 0 0,1023 / M 0 / C 0 0,1023");
     let twelve_deep: String = doubled.split_inclusive('\n').take(14).collect();
-    let at_twelve = tabbed("N 0 same 12 - 12 12 / N 1 wr 0 0 12 0,12 / C 12 0,12");
+    let at_twelve = tabbed("N 0 same 12 - 12 12 / N 1 wr 0 0 12 0,12 / M 0 / C 12 0,12");
     let alone = "Row 0: a given formula is itself one of the alternatives; about the formula \"p\"; \
         from no other row; if these are all that is given: \"p\"; \
         then in every equilibrium model at least one of these alternatives holds: \"p\".\n";
     vec![
-        printed("shared_parts_on_both_sides", doubled.clone() + &on_both_sides, NO_ROOM),
-        printed("shared_parts_of_every_word", mixed + &on_both_sides, NO_ROOM),
+        printed("shared_parts_on_both_sides", doubled.clone() + &on_both_sides("0"), NO_ROOM),
+        printed("shared_parts_of_every_word", mixed + &on_both_sides("-"), NO_ROOM),
         printed("shared_parts_in_the_last_row", doubled.clone() + &added_last, NO_ROOM),
-        printed("shared_parts_in_no_row", doubled + &tabbed("N 0 same 0 - 0 0 / C 0 0"), alone),
+        printed("shared_parts_in_no_row", doubled + &tabbed("N 0 same 0 - 0 0 / M 0 / C 0 0"), alone),
         naive("shared_parts_that_fit", twelve_deep + &at_twelve),
     ]
 }
@@ -452,8 +461,8 @@ const DIFFERENT: &[(&str, &str, &str, &str)] = &[
         "nested_to_the_right", "same p&q - p&(q&r),p&q => p&q"),
     ("implications_to_the_left", "same p - (p->q)->r,p => p",
         "implications_to_the_right", "same p - p->(q->r),p => p"),
-    ("negation_inside_brackets", "same p - (~p)&q,p => p",
-        "negation_outside_brackets", "same p - ~(p&q),p => p"),
+    ("negation_inside_brackets", "same r - (~p)&q,r => r",
+        "negation_outside_brackets", "same r - ~(p&q),r => r"),
     ("negation_of_the_first_part", "same p - ~p->q,p => p",
         "negation_of_the_implication", "same p - ~(p->q),p => p"),
     ("parts_in_one_order", "same p&q - p&q => p&q",
@@ -462,8 +471,8 @@ const DIFFERENT: &[(&str, &str, &str, &str)] = &[
         "implication_of_q_and_p", "same q->p - q->p => q->p"),
     ("a_conjunction_of_two", "same p&r - p&r => p&r",
         "a_disjunction_of_two", "same p|r - p|r => p|r"),
-    ("falsum_itself", "same # - # => #,r",
-        "an_atom_called_contradiction", "same contradiction - contradiction => contradiction,r"),
+    ("falsum_itself", "same # - # => #,r\nsame c - c => c",
+        "an_atom_called_contradiction", "same contradiction - contradiction => contradiction,r\nsame c - c => c"),
     ("a_negation", "same ~p - ~p => ~p,r",
         "an_atom_called_not_p", "same not_p - not_p => not_p,r"),
     ("an_atom_of_one_name", "same p - p => p,r",
@@ -475,12 +484,14 @@ const DIFFERENT: &[(&str, &str, &str, &str)] = &[
 /// Pairs of texts that differ, and whose rows are the same all the same.
 #[rustfmt::skip]
 const EQUAL: &[(&str, &str, &str, &str)] = &[
-    ("formula_numbers", "A 0 u / F 0 atom 0 - / F 1 bot - - / N 0 same 0 - 0 0 / C 0 0",
-        "formula_numbers_exchanged", "A 0 u / F 0 bot - - / F 1 atom 0 - / N 0 same 1 - 1 1 / C 1 1"),
-    ("atom_numbers", "A 0 u / A 1 v / F 0 atom 0 - / F 1 atom 1 - / N 0 same 0 - 0,1 0 / C 0,1 0",
-        "atom_numbers_exchanged", "A 0 v / A 1 u / F 0 atom 1 - / F 1 atom 0 - / N 0 same 0 - 0,1 0 / C 0,1 0"),
-    ("all_items_used", "A 0 w / F 0 atom 0 - / N 0 same 0 - 0 0 / C 0 0",
-        "items_that_no_row_uses", "A 0 u / A 1 w / F 0 bot - - / F 1 atom 1 - / F 2 not 1 - / F 3 and 2 0 / N 0 same 1 - 1 1 / C 1 1"),
+    ("formula_numbers", "A 0 u / F 0 atom 0 - / F 1 bot - - / N 0 same 0 - 0 0 / M 0 / C 0 0",
+        "formula_numbers_exchanged", "A 0 u / F 0 bot - - / F 1 atom 0 - / N 0 same 1 - 1 1 / M 0 / C 1 1"),
+    ("atom_numbers", "A 0 u / A 1 v / F 0 atom 0 - / F 1 atom 1 - / N 0 same 0 - 0,1 0 / M 0,1 / C 0,1 0",
+        "atom_numbers_exchanged", "A 0 v / A 1 u / F 0 atom 1 - / F 1 atom 0 - / N 0 same 0 - 0,1 0 / M 0,1 / C 0,1 0"),
+    ("all_items_used", "A 0 w / F 0 atom 0 - / N 0 same 0 - 0 0 / M 0 / C 0 0",
+        "items_that_no_row_uses", "A 0 u / A 1 w / F 0 bot - - / F 1 atom 1 - / F 2 not 1 - / F 3 and 2 0 / N 0 same 1 - 1 1 / M 1 / C 1 1"),
+    ("one_model", "A 0 u / A 1 v / F 0 atom 0 - / F 1 atom 1 - / F 2 or 0 1 / N 0 same 2 - 2 2 / M 0 / C 2 2",
+        "another_model", "A 0 u / A 1 v / F 0 atom 0 - / F 1 atom 1 - / F 2 or 0 1 / N 0 same 2 - 2 2 / M 1 / C 2 2"),
 ];
 
 #[cfg(test)]
