@@ -2,7 +2,7 @@
 -- are those of the claim's formulas. Assumes nothing.
 use Prim.Native.Nat.{ℕ, zero, suc, _+_, _-_, _^_, _≤_, _<_}
 use native.Mathlib.Omega.{arith}
-use mathlib.Core.Bool.{Bool, true, false, not, _&&_, _||_, true≢false, false≢true}
+use mathlib.Core.Bool.{Bool, true, false, not, _&&_, _||_, false≢true, Bool·not-not}
 use mathlib.Core.List.{List, [], _∷_, map, List·Memᴰ·head, List·Memᴰ·tail, List·Memᴰ·not-nil, List·Memᴰ·cases-cons}
 use mathlib.Core.Logic.{_↔_, _⊎_, inl, inr, ⊎-elim}
 use mathlib.Core.Option.{Option, none, some}
@@ -128,10 +128,6 @@ decided true (no n) s = absurd (n (s .0 refl))
 decided false (yes x) s = absurd (false≢true (s .1 x))
 decided false (no n) s = refl
 
-twice : (b : Bool) → not (not b) ≡ b
-twice true = refl
-twice false = refl
-
 -- the tests by the tables are those of the claim's formulas
 pub tests-agree : {b : Body} {formulas left right : List ℕ} (given : Bool) (model : ℕ) (T : Option (List ℕ))
     → Formulas b formulas → Sided b left → Sided b right → Given T given model → model < 2 ^ 64
@@ -151,7 +147,7 @@ tests-agree {b} {formulas} {left} {right} given model (some T) g l r is small =
     R = decoded (b .nodes) right
 
     falsum-same : onlyFalsum formulas right ≡ not (isNo (contradiction? R))
-    falsum-same = sym (ap not (decided (onlyFalsum formulas right) (contradiction? R) (falsum-says g right r)) ∙ twice _)
+    falsum-same = sym (ap not (decided (onlyFalsum formulas right) (contradiction? R) (falsum-says g right r)) ∙ Bool·not-not _)
 
     equilibrium-same : not (inEquilibrium formulas left model) ≡ isNo (equilibrium? (decoded (b .nodes) left) T)
     equilibrium-same =

@@ -1,3 +1,6 @@
 -- The laws of the model's tests.
 pub mod Tested
 pub mod Deciding
+pub mod Passing
+pub mod PartWords
+pub mod Judging

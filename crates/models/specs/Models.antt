@@ -1,6 +1,6 @@
 -- The tests 15, 16 and 17 of a claim (paper 02, M-101) by the formulas table, the sides as numbers and the model as one word. A table is
 -- any list of numbers, and so are the sides.
-use Prim.Native.Nat.{ℕ, zero, suc, _-_, _^_}
+use Prim.Native.Nat.{ℕ, zero, suc, _-_, _^_, _<_}
 use mathlib.Core.Bool.{Bool, true, false, not, _&&_, _||_}
 use mathlib.Core.List.{List, [], _∷_}
 use mathlib.Core.Option.{Option, none, some}
@@ -17,7 +17,7 @@ use Rattle.tables.specs.Records.{nodeAt, recordFrom}
 use Rattle.tables.specs.Holding.{Formulas, Sided}
 use Rattle.early.specs.Early.{numbered}
 use Rattle.pairs.specs.Parts.{part}
-use Rattle.pairs.specs.Truths.{truthOf, truthsThere, truthsHere}
+use Rattle.pairs.specs.Truths.{truthOf, truthsThere, truthsHere, notedAt}
 
 -- the claim reports a contradiction: its right side is empty or holds only falsum
 abbrev pub onlyFalsum : List ℕ → List ℕ → Bool
@@ -34,6 +34,10 @@ hereIn formulas h t = truthsHere formulas h (truthOf (thereIn formulas t)) mostF
 -- part n upsets the model: with the model it satisfies the side
 unfoldable pub upsets : List ℕ → List ℕ → ℕ → ℕ → Bool
 upsets formulas left model n = all (truthOf (hereIn formulas (setOf (part n (members model))) model)) left
+
+-- a table notes the truths in (t,t) of the formulas below a number
+abbrev pub NotesThere : List ℕ → ℕ → ℕ → List ℕ → Type 0
+NotesThere formulas t end there = (i : ℕ) → i < end → notedAt there i ≡ truthOf (thereIn formulas t) i
 
 -- some number below k passes the test
 unfoldable pub someBelow : (ℕ → Bool) → ℕ → Bool

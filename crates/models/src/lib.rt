@@ -1,0 +1,211 @@
+// The model beside a claim (paper 02, M-101): whether one is wanted, has few atoms, and is an equilibrium model of the claim's left
+// side, the sheet. The model is one 64-bit word. Its proper parts are counted, and each is judged with the model as a pair of words.
+ghost use mathlib.Core.Path.{_≡_};
+ghost use mathlib.Core.Bool.{not, _&&_, _||_};
+ghost use Prim.Native.Nat.{ℕ, _≤_, _<_, max};
+ghost use lib.Dec.{eqb, ltb};
+ghost use lib.ListN.{length};
+ghost use Rattle.equilibrium.specs.Meaning.{_∈_};
+ghost use Rattle.format.specs.Text.{all};
+ghost use Rattle.format.specs.Tables.{mostFormulas};
+ghost use Rattle.format.specs.Model.{mostInModel};
+ghost use Rattle.atomset.specs.AtomSet.{has, members, setOf};
+ghost use Rattle.pairs.specs.Parts.{part};
+ghost use Rattle.pairs.specs.Truths.{notedAt};
+ghost use Rattle.models.specs.Models.{onlyFalsum, someUpsets, inEquilibrium, NotesThere, ModelNumbered};
+use atomset::count;
+use atomset::first;
+use atomset::insert;
+use atomset::is_empty;
+use atomset::without_first;
+use counts::limits::MOST_FORMULAS;
+use pairs::fill_here;
+use pairs::fill_there;
+use tables::records::node;
+use tables::records::wide;
+
+// The word of falsum.
+const FALSUM: u16 = 0;
+
+// The most atoms of a model.
+const MOST_IN_MODEL: usize = 16;
+
+// Whether a side holds no formula but falsum: a claim with this right side reports a contradiction.
+fn only_falsum(formulas: &[u16], side: &[u16]) -> bool
+    ensures { λ r. ⌜ r ≡ onlyFalsum (now (formulas .entry)) (now (side .entry)) ⌝ }
+{
+    let mut i = 0;
+    while i < side.len() {
+        let key = node(formulas, wide(side[i]));
+        if key.word != FALSUM {
+            return false;
+        }
+        i += 1;
+    }
+    true
+}
+
+fn larger(a: usize, b: usize) -> usize
+    ensures { λ r. ⌜ r ≡ max a b ⌝ }
+{
+    if a < b {
+        return b;
+    }
+    a
+}
+
+// A number that is past every formula of a side: one more than the largest.
+fn past_largest(side: &[u16]) -> usize
+    ensures { λ r. ⌜ ((x : ℕ) → x ∈ now (side .entry) → x < r) ⌝ }
+{
+    let mut past = 0;
+    let mut i = 0;
+    while i < side.len() {
+        past = larger(past, wide(side[i]) + 1);
+        i += 1;
+    }
+    past
+}
+
+// The set with the atom, if the lowest digit of n is 1.
+fn with_digit(set: u64, atom: usize, n: u64) -> u64
+    ensures { λ r. ⌜ ((i : ℕ) → has r i ≡ (has set i || (has n 0 && (eqb i atom && ltb atom 64)))) ⌝ }
+{
+    if n % 2 == 1 {
+        return insert(set, atom);
+    }
+    set
+}
+
+// Part n of the model: the j-th atom of the model is in it if n has digit j.
+fn part_of(model: u64, n: u64) -> u64
+    ensures { λ r. ⌜ r ≡ setOf (part n (members model)) ⌝ }
+{
+    let mut set = 0;
+    let mut rest = model;
+    let mut digits = n;
+    while !is_empty(rest) {
+        set = with_digit(set, first(rest), digits);
+        rest = without_first(rest);
+        digits /= 2;
+    }
+    set
+}
+
+// Whether a formula is noted to hold.
+fn holds(notes: &[u8], x: u16) -> bool
+    ensures { λ r. ⌜ r ≡ notedAt (now (notes .entry)) x ⌝ }
+{
+    let at = wide(x);
+    if at >= notes.len() {
+        return false;
+    }
+    notes[at] == 1
+}
+
+// Whether all formulas of a side are noted to hold.
+fn holds_all(notes: &[u8], side: &[u16]) -> bool
+    ensures { λ r. ⌜ r ≡ all (notedAt (now (notes .entry))) (now (side .entry)) ⌝ }
+{
+    let mut i = 0;
+    while i < side.len() {
+        if !holds(notes, side[i]) {
+            return false;
+        }
+        i += 1;
+    }
+    true
+}
+
+// Whether no proper part of the model satisfies the sheet with it. `there` notes what holds in the model itself, and `here` is room
+// for notes; the formulas of the sheet are below `end`.
+fn undisturbed(
+    formulas: &[u16],
+    sheet: &[u16],
+    model: u64,
+    end: usize,
+    there: &[u8],
+    here: &mut [u8],
+) -> bool
+    requires { ⌜ (length (members model) ≤ mostInModel) × ((x : ℕ) → x ∈ now sheet → x < end) × (length (now here) ≡ mostFormulas)
+        × NotesThere (now formulas) model end (now there) ⌝ }
+    ensures { λ r. ⌜ r ≡ not (someUpsets (now (formulas .entry)) (now (sheet .entry)) model) ⌝ }
+{
+    let last = (1u64 << count(model)) - 1;
+    let mut upset = false;
+    let mut n = 0;
+    'parts: while n < last {
+        fill_here(formulas, end, part_of(model, n), there, here);
+        let mut i = 0;
+        loop {
+            if i >= sheet.len() {
+                upset = true;
+                break 'parts;
+            }
+            if !holds(here, sheet[i]) {
+                break;
+            }
+            i += 1;
+        }
+        n += 1;
+    }
+    !upset
+}
+
+// Whether the model is in equilibrium, with room for notes on the formulas.
+fn tested_with(
+    formulas: &[u16],
+    sheet: &[u16],
+    model: u64,
+    there: &mut [u8],
+    here: &mut [u8],
+) -> bool
+    requires { ⌜ (length (members model) ≤ mostInModel) × (length (now there) ≡ mostFormulas) × (length (now here) ≡ mostFormulas) ⌝ }
+    ensures { λ r. ⌜ r ≡ inEquilibrium (now (formulas .entry)) (now (sheet .entry)) model ⌝ }
+{
+    let end = past_largest(sheet);
+    fill_there(formulas, end, model, there);
+    if !holds_all(there, sheet) {
+        return false;
+    }
+    undisturbed(formulas, sheet, model, end, there, here)
+}
+
+// Whether a model of few atoms is in equilibrium.
+fn in_equilibrium(formulas: &[u16], sheet: &[u16], model: u64) -> bool
+    requires { ⌜ length (members model) ≤ mostInModel ⌝ }
+    ensures { λ r. ⌜ r ≡ inEquilibrium (now (formulas .entry)) (now (sheet .entry)) model ⌝ }
+{
+    let mut there = [0u8; MOST_FORMULAS];
+    let mut here = [0u8; MOST_FORMULAS];
+    tested_with(formulas, sheet, model, &mut there, &mut here)
+}
+
+// The first of the numbers 15, 16 and 17 that applies to a claim, 0 if none does: `given` says whether there is a model.
+pub fn model_number(
+    formulas: &[u16],
+    left: &[u16],
+    right: &[u16],
+    given: bool,
+    model: u64,
+) -> u32
+    ensures { λ r. ⌜ ModelNumbered (now (formulas .entry)) (now (left .entry)) (now (right .entry)) given model r ⌝ }
+{
+    let contradiction = only_falsum(formulas, right);
+    if !given {
+        if contradiction {
+            return 0;
+        }
+        return 15;
+    }
+    if contradiction {
+        return 15;
+    }
+    if MOST_IN_MODEL < count(model) {
+        return 16;
+    }
+    if in_equilibrium(formulas, left, model) {
+        return 0;
+    }
+    17
+}
