@@ -2,7 +2,9 @@
  *
  * All calls are proved to answer, for any bytes, what the specification says: number 0 with the line of the claim if the text
  * is accepted, else the number of a refusal with the line that it belongs to, 0 for numbers 1, 2 and 14. If the number is 0, the
- * text's claim does not fail.
+ * text's claim does not fail: every equilibrium model of its left side satisfies a formula of its right side. And either the claim is
+ * confirmed, since its left side has an equilibrium model, the one on the text's M line; or a contradiction is shown: the text has no
+ * M line, the claim's right side is empty or holds only falsum, and its left side has no equilibrium model.
  *
  * They need no initialisation, keep no pointer, touch nothing but what is lent, use no heap and no global state, and so are
  * reentrant. A pointer that comes with length 0 is never followed, but must not be null: pass the address of anything.
