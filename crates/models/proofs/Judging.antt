@@ -64,16 +64,18 @@ all-same : (f g : ℕ → Bool) (xs : List ℕ) → ((x : ℕ) → x ∈ xs → 
 all-same f g [] h = refl
 all-same f g (x ∷ xs) h = ap₂ _&&_ (h x (List·Memᴰ·head refl)) (all-same f g xs (λ y m. h y (List·Memᴰ·tail m)))
 
-module _ (formulas sheet : List ℕ) (model end : ℕ) (below : (x : ℕ) → x ∈ sheet → x < end) (there : List ℕ) (notes : NotesThere formulas model end there) where
+module _ (sheet : List ℕ) (model : ℕ) {formulas : List ℕ} {end : ℕ} (below : (x : ℕ) → x ∈ sheet → x < end) where
   -- the model satisfies the sheet
-  pub all-there : all (notedAt there) sheet ≡ all (truthOf (thereIn formulas model)) sheet
-  all-there = all-same (notedAt there) (truthOf (thereIn formulas model)) sheet (λ x m. notes x (below x m))
+  pub all-there : {before after : List ℕ} → length before ≡ mostFormulas → NotedThere formulas end model before after
+      → all (notedAt after) sheet ≡ all (truthOf (thereIn formulas model)) sheet
+  all-there {after = after} room noted =
+      all-same (notedAt after) (truthOf (thereIn formulas model)) sheet (λ x m. there-noted room noted x (below x m))
 
   -- part n upsets the model
-  pub all-here : {before after : List ℕ} {h : ℕ} (n : ℕ) → length before ≡ mostFormulas → h ≡ setOf (part n (members model))
-      → NotedHere formulas end h there before after → all (notedAt after) sheet ≡ upsets formulas sheet model n
+  pub all-here : (there : List ℕ) {before after : List ℕ} {h : ℕ} (n : ℕ) → NotesThere formulas model end there → length before ≡ mostFormulas
+      → h ≡ setOf (part n (members model)) → NotedHere formulas end h there before after → all (notedAt after) sheet ≡ upsets formulas sheet model n
   unfolding upsets hereIn
-  all-here {before} {after} {h} n room part-n noted-here =
+  all-here there {before} {after} {h} n notes room part-n noted-here =
       all-same (notedAt after) (truthOf (hereIn formulas h model)) sheet
       (λ x m. noted-below (λ i. hereBy h (truthOf (thereIn formulas model) i)) formulas end before room right x (below x m))
       ∙ ap (λ (h : ℕ). all (truthOf (hereIn formulas h model)) sheet) part-n

@@ -4,3 +4,4 @@ pub mod Deciding
 pub mod Passing
 pub mod PartWords
 pub mod Judging
+pub mod Answering

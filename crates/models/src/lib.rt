@@ -182,13 +182,7 @@ fn in_equilibrium(formulas: &[u16], sheet: &[u16], model: u64) -> bool
 }
 
 // The first of the numbers 15, 16 and 17 that applies to a claim, 0 if none does: `given` says whether there is a model.
-pub fn model_number(
-    formulas: &[u16],
-    left: &[u16],
-    right: &[u16],
-    given: bool,
-    model: u64,
-) -> u32
+pub fn model_number(formulas: &[u16], left: &[u16], right: &[u16], given: bool, model: u64) -> u32
     ensures { λ r. ⌜ ModelNumbered (now (formulas .entry)) (now (left .entry)) (now (right .entry)) given model r ⌝ }
 {
     let contradiction = only_falsum(formulas, right);

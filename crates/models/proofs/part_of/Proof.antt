@@ -37,7 +37,7 @@ loop-less c =
     let picked = c .before .before in
     let turn = picked .before .before .before in
     let walk = walk-goes-on (turn .loop .rest) _ _ (sym (picked .before .before .is-empty .ensures) ∙ not-true _ (picked .before .if1 .taken))
-        (picked .first .ensures) (c .without-first .ensures) in
+    (picked .first .ensures) (c .without-first .ensures) in
     omega (arith, ap length walk)
 
 loop-again : tie.Need-loop-again Inv-loop μ-loop
@@ -46,7 +46,7 @@ loop-again c =
     let turn = picked .before .before .before in
     let args = turn .before .args in
     let walk = walk-goes-on (turn .loop .rest) _ _ (sym (picked .before .before .is-empty .ensures) ∙ not-true _ (picked .before .if1 .taken))
-        (picked .first .ensures) (c .without-first .ensures) in
+    (picked .first .ensures) (c .without-first .ensures) in
     (search needs, search needs, taken-next (args .model) (args .n) _ _ _ _ _ _ (turn .loop .inv .1) walk (c .before .with-digit .ensures) (turn .loop .inv .2))
 
 returns : tie.Need-returns Inv-loop μ-loop

@@ -1,3 +1,10 @@
+-- `models::tested_with` meets its contract: the notes on the model say whether it satisfies the sheet, and by them its parts are judged.
+-- Assumes nothing.
+use mathlib.Core.Bool.{Bool, not, _&&_}
+use mathlib.Core.Path.{sym, ap, ap₂, _∙_}
+use borrow.Author.Tests.{not-true, not-false}
+use Rattle.models.specs.Models.{someUpsets, inEquilibrium}
+use Rattle.models.proofs.Judging.{there-noted, all-there}
 use borrow.Author.Needs.{needs}
 use Rattle.models.proofs.tested_with.Statement.{statement}
 use Rattle.models.proofs.tested_with.Tie as tie
@@ -15,10 +22,23 @@ same-length : tie.Need-same-length
 same-length c = search needs
 
 returns : tie.Need-returns
-returns c = ?
+unfolding inEquilibrium
+returns c =
+    let asked = c .before in
+    let noted = asked .before .before .before .before in
+    let bound = noted .before .before in
+    let start = bound .before .before .before .before .before in
+    let args = start .args in
+    let all-hold = all-there (args .sheet .now) (args .model) (bound .past-largest .ensures) (start .pre .1) (noted .fill-there .ensures) in
+    sym (ap (λ (x : Bool). x && not (someUpsets (args .formulas .now) (args .sheet .now) (args .model)))
+    (sym all-hold ∙ sym (asked .holds-all .ensures) ∙ not-true _ (c .if1 .taken)))
 
 undisturbed-requires : tie.Need-undisturbed-requires
-undisturbed-requires c κs = ?
+undisturbed-requires c κs =
+    let noted = c .before .before .before .before .before .before .before in
+    let bound = noted .before .before in
+    let start = bound .before .before .before .before .before in
+    (start .pre .0, bound .past-largest .ensures, start .pre .2, there-noted (start .pre .1) (noted .fill-there .ensures))
 
 same-length-2 : tie.Need-same-length-2
 same-length-2 c = search needs
@@ -27,7 +47,18 @@ same-length-3 : tie.Need-same-length-3
 same-length-3 c = search needs
 
 returns-2 : tie.Need-returns-2
-returns-2 c = ?
+unfolding inEquilibrium
+returns-2 c =
+    let judged = c .before .before in
+    let asked = judged .before .before .before .before in
+    let noted = asked .before .before .before .before in
+    let bound = noted .before .before in
+    let start = bound .before .before .before .before .before in
+    let args = start .args in
+    let all-hold = all-there (args .sheet .now) (args .model) (bound .past-largest .ensures) (start .pre .1) (noted .fill-there .ensures) in
+    judged .undisturbed .ensures
+    ∙ sym (ap (λ (x : Bool). x && not (someUpsets (args .formulas .now) (args .sheet .now) (args .model)))
+    (sym all-hold ∙ sym (asked .holds-all .ensures) ∙ not-false _ (judged .before .before .before .if1 .left)))
 
 pub tested-with-spec : {M : Type 1} → statement M
 tested-with-spec =

@@ -101,8 +101,8 @@ parts-again c =
     let pre = start .pre in
     let args = start .args in
     let fails-here = fails _ _ (turn .loop .i) (turn .loop .inv .1) (search needs) (sym (asked .holds .ensures) ∙ not-true _ (c .if2 .taken)) in
-    let judged = all-here (args .formulas .now) (args .sheet .now) (args .model) (args .end) (pre .1) (args .there .now) (pre .3) (part .parts .n)
-        (part .parts .inv .2) (made .part-of .ensures) (filled .fill-here .ensures) in (
+    let judged = all-here (args .sheet .now) (args .model) (pre .1) (args .there .now) (part .parts .n) (pre .3) (part .parts .inv .2) (made .part-of .ensures)
+    (filled .fill-here .ensures) in (
       search needs,
       turn .loop .inv .0,
       length-here (filled .fill-here .ensures) ∙ part .parts .inv .2,
@@ -124,17 +124,17 @@ returns c =
     let test = upsets (args .formulas .now) (args .sheet .now) (args .model) in
     let all-parts = word-of-parts (members (args .model)) (pre .0) (part .before .count .ensures) in
     let answer : c .parts-test .upset ≡ someBelow test (2 ^ length (members (args .model)) - 1) =
-        ⊎-elim
-        (λ w.
-            let last : part .parts .n ≡ 2 ^ length (members (args .model)) - 1 = omega (arith, all-parts, w .0 .left) in
-            w .2 ∙ part .parts .inv .1 ∙ sym (ap (someBelow test) (sym last) ∙ part .parts .inv .3))
-        (λ w.
-            let judged = all-here (args .formulas .now) (args .sheet .now) (args .model) (args .end) (pre .1) (args .there .now) (pre .3) (part .parts .n)
-                (part .parts .inv .2) (w .1 .ensures) (w .3 .ensures) in
-            w .9
-            ∙ sym (some-found test _ (part .parts .n) (omega (arith, all-parts, w .0 .taken))
-            (sym judged ∙ all-passed _ _ (w .6 .i) (w .6 .inv .1) (w .7 .taken))))
-        (c .parts-test .came) in
+    ⊎-elim
+    (λ w.
+    let last : part .parts .n ≡ 2 ^ length (members (args .model)) - 1 = omega (arith, all-parts, w .0 .left) in
+    w .2 ∙ part .parts .inv .1 ∙ sym (ap (someBelow test) (sym last) ∙ part .parts .inv .3))
+    (λ w.
+    let judged = all-here (args .sheet .now) (args .model) (pre .1) (args .there .now) (part .parts .n) (pre .3) (part .parts .inv .2) (w .1 .ensures)
+    (w .3 .ensures) in
+    w .9
+    ∙ sym (some-found test _ (part .parts .n) (omega (arith, all-parts, w .0 .taken))
+    (sym judged ∙ all-passed _ _ (w .6 .i) (w .6 .inv .1) (w .7 .taken))))
+    (c .parts-test .came) in
     ap not answer
 
 pub undisturbed-spec : {M : Type 1} → statement M
