@@ -190,7 +190,9 @@ impl Report {
                     None if only_falsum && models.is_empty() => self.contradictions_shown += 1,
                     Some(_) => return Err("the claim is accepted with a set that is no model".into()),
                     None => {
-                        return Err("the claim is accepted without a model, and shows no contradiction".into());
+                        return Err(
+                            "the claim is accepted without a model, and shows no contradiction".into()
+                        );
                     }
                 }
             }
