@@ -125,7 +125,7 @@ impl Draft {
             ]);
         }
         if let Some(model) = self.model {
-            line(&["M".into(), list(&rising(model).map(usize::from).collect::<Vec<_>>())]);
+            line(&["M".into(), atom_list(model)]);
         }
         line(&["C".into(), side(&claim.antecedent), side(&claim.succedent)]);
         text.into_bytes()
@@ -154,6 +154,11 @@ pub fn list(numbers: &[usize]) -> String {
         [] => "-".into(),
         _ => numbers.iter().map(usize::to_string).collect::<Vec<_>>().join(","),
     }
+}
+
+/// A set of atoms as the files write it.
+pub fn atom_list(atoms: Atoms) -> String {
+    list(&rising(atoms).map(usize::from).collect::<Vec<_>>())
 }
 
 /// Names for so many atoms.

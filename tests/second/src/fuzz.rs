@@ -5,8 +5,8 @@
 //! none where there is no model; its tables must give the text back, and its words the
 //! rows; and an answer that is known beforehand must be given.
 
-use crate::draft::list;
-use crate::formula::{Atoms, Formulas, rising};
+use crate::draft::{atom_list, list};
+use crate::formula::{Atoms, Formulas, Node};
 use crate::judge::{Deciding, Derivation, Judgement, Refusal, judge, judge_closely};
 use crate::line::{self, Line};
 use crate::reading;
@@ -184,11 +184,16 @@ impl Report {
                     return Err("the claim is accepted and fails".into());
                 }
                 let models = interpretations.equilibrium_models(&claim.antecedent);
+                let only_falsum = claim.succedent.iter().all(|&f| formulas.node(f) == Node::Falsum);
                 match model {
                     Some(model) if models.contains(model) => self.claims_confirmed += 1,
-                    None if models.is_empty() => self.contradictions_shown += 1,
+                    None if only_falsum && models.is_empty() => self.contradictions_shown += 1,
                     Some(_) => return Err("the claim is accepted with a set that is no model".into()),
-                    None => return Err("a contradiction is accepted, and there is a model".into()),
+                    None => {
+                        return Err(
+                            "the claim is accepted without a model, and shows no contradiction".into()
+                        );
+                    }
                 }
             }
         }
@@ -260,8 +265,7 @@ fn rebuilt(text: &[u8], judgement: &Judgement, model: Option<Atoms>) -> Vec<u8> 
         let rule = ELK.rules[record[0] as usize].name;
         lines.push(format!("N\t{k}\t{rule}\t{}\t{}\t{claim}", optional(record[1]), list(&premises)));
     }
-    let atoms = |model| list(&rising(model).map(usize::from).collect::<Vec<_>>());
-    lines.extend(model.map(|model| format!("M\t{}", atoms(model))));
+    lines.extend(model.map(|model| format!("M\t{}", atom_list(model))));
     lines.push(format!("C\t{claim}"));
     lines.into_iter().map(|line| line + "\n").collect::<String>().into_bytes()
 }

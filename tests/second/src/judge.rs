@@ -243,9 +243,9 @@ impl<'t> Checker<'t> {
         }
     }
 
-    /// Judges one line that is well written and takes it in; gives the claim if the
-    /// line is one. In each kind of line the tests stand in the order of their
-    /// numbers, so the smallest that applies is given.
+    /// Judges one line that is well written, in its place in the text, and takes it in;
+    /// gives the claim if the line is one. In each kind of line the tests stand in the
+    /// order of their numbers, so the smallest that applies is given.
     fn take(&mut self, place: usize, line: Line) -> Result<Option<Sequent>, Refusal> {
         match line {
             Line::Atom { number, name } => {

@@ -5,6 +5,7 @@ use super::limits::{atom_formulas, atoms};
 use super::{Case, plain, raw, rows, tabbed};
 use crate::draft::list;
 use crate::formula::{rising, subsets};
+use crate::judge::MOST_IN_A_POOL;
 use std::ops::Range;
 
 pub fn cases() -> Vec<Case> {
@@ -319,6 +320,12 @@ fn large() -> Vec<Case> {
         facts(63..64, 63..64).replace("M\t63\n", &format!("M\t{repeating}\n"))
     });
     case("65_numbers_with_one_over", 7, facts(63..64, 0..65));
+    // Nothing is stored, so that no list is too long for a pool.
+    let entries = vec!["0"; MOST_IN_A_POOL].join(",");
+    for (name, number, last) in [("repeated", 9, "0"), ("one_over", 7, "64"), ("badly_written", 3, "00")] {
+        let text = facts(63..64, 63..64).replace("M\t63\n", &format!("M\t{entries},{last}\n"));
+        case(&format!("16385_numbers_the_last_{name}"), number, text);
+    }
 
     let (round, all) = (list(&(16..32).collect::<Vec<_>>()), list(&(0..16).collect::<Vec<_>>()));
     case("circle_of_16_with_none", 0, circle("", &round, "-"));

@@ -24,7 +24,7 @@ pub fn accepted(name: &str, rows: &str) -> Option<Case> {
     let mut draft = draft(rows)?;
     if draft.model.is_none() && !draft.confirm(least) {
         draft = self::draft(&format!("{rows}\nsame c - c => c"))?;
-        draft.confirm(least);
+        assert!(draft.confirm(least), "an atom is a model of itself");
     }
     let text = draft.text();
     let lines = text.iter().filter(|&&byte| byte == b'\n').count();
