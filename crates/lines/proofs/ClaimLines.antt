@@ -130,6 +130,11 @@ module _ {text : Bytes} {f : File} {s : State} {t : Memory} (stored : Stored tex
 
 -- ---- the model beside the claim
 
+-- what is told of the model, by the sides that those which were handed over are
+pub model-told : {formulas xs ys zs ws : List ℕ} {given : Bool} {model n : ℕ} → xs ≡ zs → ys ≡ ws → ModelNumbered formulas xs ys given model n
+    → ModelNumbered formulas zs ws given model n
+model-told {formulas} {given = given} {model} {n} e k = subst₂ (λ (xs ys : List ℕ). ModelNumbered formulas xs ys given model n) e k
+
 module _ {text : Bytes} {f : File} {s : State} {t : Memory} (stored : Stored text f s t) {done : List Bytes} (good : Good done f) where
   -- whether the last line was an M line, as the code asks it
   abbrev given : Bool
@@ -224,9 +229,8 @@ module _ (antecedent succedent : Listed) (number : ℕ) (l r formulas rows left 
       confirms : {text : Bytes} {f : File} (t : Memory) {xs ys : List ℕ} {done : List Bytes} → Stored text f s (lent t) → Good done f
           → Laid xs antecedent l → Laid ys succedent r → numbered n ≡ first (confirmationTests f xs ys)
       confirms t {xs} {ys} stored good x y =
-          let sides = subst₂ (λ (xs ys : List ℕ). ModelNumbered formulas xs ys (eqb (s .stage) 3) (s .model) n)
-          (left-laid stored x y k e zero-k good) (right-laid stored x y k e zero-k good) model in
-          model-earns stored good xs ys (unrefused t stored good x y) n sides
+          model-earns stored good xs ys (unrefused t stored good x y) n
+          (model-told (left-laid stored x y k e zero-k good) (right-laid stored x y k e zero-k good) model)
 
       pub settled-unconfirmed : (n ≡ 0 → ⊥) → (line : ℕ) → line ≡ modelReport s number → stepped ≡ refusedBy s n line → Settles
       settled-unconfirmed h line is-line given =

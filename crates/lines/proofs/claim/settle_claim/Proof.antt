@@ -1,13 +1,9 @@
 -- `lines::claim::settle_claim` meets its contract. Assumes nothing.
-use Prim.Native.Nat.{ℕ}
-use mathlib.Core.List.{List}
-use mathlib.Core.Path.{ap₂, subst₂, _∙_}
-use lib.Dec.{eqb}
+use mathlib.Core.Path.{ap₂, _∙_}
 use borrow.Author.Needs.{needs}
 use borrow.Author.Tests.{not-true, not-false}
 use Rattle.format.specs.Tests.{lastIs}
-use Rattle.models.specs.Models.{ModelNumbered}
-use Rattle.lines.proofs.ClaimLines.{settled-early, settled-differs, settled-unconfirmed, settled-claimed}
+use Rattle.lines.proofs.ClaimLines.{model-told, settled-early, settled-differs, settled-unconfirmed, settled-claimed}
 use Rattle.lines.proofs.claim.settle_claim.Statement.{statement}
 use Rattle.lines.proofs.claim.settle_claim.Tie as tie
 
@@ -62,7 +58,7 @@ returns-3 c =
     settled-unconfirmed _ _ _ _ _ _ _ _ _ _ _ _ (called .before .claim-number .ensures) (called .if1 .left) _
     (λ held holds e. told .last-is .ensures .held held holds e ∙ ap₂ (lastIs held) (left .front .ensures) (right .front2 .ensures))
     (not-false (told .last-is .result) (agreed .if2 .left)) _
-    (subst₂ (λ (xs ys : List ℕ). ModelNumbered _ xs ys _ _ _) (left .front .ensures) (right .front2 .ensures) (asked .model-number .ensures))
+    (model-told (left .front .ensures) (right .front2 .ensures) (asked .model-number .ensures))
     (c .before .before .if3 .taken) _ (c .before .model-report .ensures) (c .refused3 .ensures)
 
 claimed-requires : tie.Need-claimed-requires
@@ -79,7 +75,7 @@ returns-4 c =
     settled-claimed _ _ _ _ _ _ _ _ _ _ _ _ (called .before .claim-number .ensures) (called .if1 .left) _
     (λ held holds e. told .last-is .ensures .held held holds e ∙ ap₂ (lastIs held) (left .front .ensures) (right .front2 .ensures))
     (not-false (told .last-is .result) (agreed .if2 .left)) _
-    (subst₂ (λ (xs ys : List ℕ). ModelNumbered _ xs ys _ _ _) (left .front .ensures) (right .front2 .ensures) (asked .model-number .ensures))
+    (model-told (left .front .ensures) (right .front2 .ensures) (asked .model-number .ensures))
     (c .before .if3 .left) (c .claimed .ensures)
 
 pub settle-claim-spec : {M : Type 1} → statement M
