@@ -24,7 +24,7 @@ use Rattle.format.specs.Judged.{orNoClaim, finish, answerFrom, wholeTest
 use Rattle.format.proofs.Booleans.{and-true, same-list}
 use Rattle.format.specs.Good.{derived, Good}
 use Rattle.format.proofs.GoodBodies.{derived-snoc, good-derivation}
-use Rattle.format.proofs.Confirmation.{confirmed-shown}
+use Rattle.format.proofs.ModelFits.{fitting-shown}
 use Rattle.format.proofs.Beginnings.{run-good, good-start}
 
 -- an accepted text: the file that its lines come to, and its claim
@@ -149,7 +149,7 @@ accepted-shown t text line e =
       only = only;
       shown =
           subst (λ (s : Said). Shown (decoded (s .nodes) (a .claim .left)) (decoded (s .nodes) (a .claim .right)) (s .model)) (sym (g .said))
-          (confirmed-shown _ _ (ends-in-sound (accepted-derives a)) (g .confirmed (a .claim) (a .is-claim)));
+          (fitting-shown _ _ (ends-in-sound (accepted-derives a)) (g .fits (a .claim) (a .is-claim)));
     }
   where
     a : Accepted text line

@@ -28,7 +28,7 @@ use Rattle.format.specs.File.{Node, Row, Name, Model, Claim, Body, in-at
 use Rattle.format.specs.Line.{Line, atomLine, formulaLine, rowLine, modelLine, claimLine, lineOf}
 use Rattle.format.specs.Tables.{mostAtoms}
 use Rattle.format.specs.Tests.{Test, _when_, first, rank, outOfOrder, lastIs, atomTests, nodeTests, formulaTests, bodyTests, rowTests, modelLineTests, claimTests}
-use Rattle.format.specs.Model.{Confirmed, confirmationTests}
+use Rattle.format.specs.Model.{ModelFits, claimModelTests}
 use Rattle.format.specs.Judged.{
   Place,
   Outcome,
@@ -57,7 +57,7 @@ use Rattle.format.specs.Good.{bare, GoodBody, atoms, formula, row, spell
 use Rattle.format.proofs.Booleans.{or-false, not-false, list-same}
 use Rattle.format.proofs.Tested.{passes, follows-once, in-order}
 use Rattle.format.proofs.GoodBodies.{Distinct, distinct-snoc}
-use Rattle.format.proofs.Confirmation.{model-passes-iff}
+use Rattle.format.proofs.ModelFits.{model-passes-iff}
 
 settled-next : (o : Option ℕ) (line : ℕ) (f t : File) → settled o line f ≡ next t → (o ≡ none) × (f ≡ t)
 settled-next none line f t e = (refl, cc)
@@ -162,7 +162,7 @@ module _ {done : List Bytes} {f : File} (line : Bytes) (g : Good done f) where
         claims-read = claims-kept line (withAtom f at name) g refl (λ l r k. let z : _≡_ {A = ℕ} 0 1 = cc in omega arith);
         claim-said = λ c k. absurd (no-such claim k);
         claim-last = λ c k. absurd (no-such claim k);
-        confirmed = λ c k. absurd (no-such claim k);
+        fits = λ c k. absurd (no-such claim k);
       }
     where
       order : rank (f .stage) ≤ 0
@@ -204,7 +204,7 @@ module _ {done : List Bytes} {f : File} (line : Bytes) (g : Good done f) where
         claims-read = claims-kept line (withNode f node) g refl (λ l r k. let z : _≡_ {A = ℕ} 0 1 = cc in omega arith);
         claim-said = λ c k. absurd (no-such claim k);
         claim-last = λ c k. absurd (no-such claim k);
-        confirmed = λ c k. absurd (no-such claim k);
+        fits = λ c k. absurd (no-such claim k);
       }
     where
       order : rank (f .stage) ≤ 1
@@ -235,7 +235,7 @@ module _ {done : List Bytes} {f : File} (line : Bytes) (g : Good done f) where
         claims-read = claims-kept line (withRow f r) g refl (λ l q k. let z : _≡_ {A = ℕ} 0 1 = cc in omega arith);
         claim-said = λ c k. absurd (no-such claim k);
         claim-last = λ c k. absurd (no-such claim k);
-        confirmed = λ c k. absurd (no-such claim k);
+        fits = λ c k. absurd (no-such claim k);
       }
     where
       order : rank (f .stage) ≤ 2
@@ -265,7 +265,7 @@ module _ {done : List Bytes} {f : File} (line : Bytes) (g : Good done f) where
             claims-kept line (withModel f (record { line = at; atoms = given })) g refl (λ l r k. let z : _≡_ {A = ℕ} 0 1 = cc in omega arith);
         claim-said = λ c k. absurd (no-such claim k);
         claim-last = λ c k. absurd (no-such claim k);
-        confirmed = λ c k. absurd (no-such claim k);
+        fits = λ c k. absurd (no-such claim k);
       }
     where
       order : rank (f .stage) < 3
@@ -280,7 +280,7 @@ module _ {done : List Bytes} {f : File} (line : Bytes) (g : Good done f) where
           (record { known = passes 7 (modelLineTests f given) through; side = passes 9 (modelLineTests f given) through })
 
   claim-good : (at : ℕ) (left right : List ℕ) → lineOf line ≡ some (claimLine left right) → first (claimTests f left right) ≡ none
-      → first (confirmationTests f left right) ≡ none → Good (done ++ line ∷ []) (withClaim f (record { line = at; left = left; right = right }))
+      → first (claimModelTests f left right) ≡ none → Good (done ++ line ∷ []) (withClaim f (record { line = at; left = left; right = right }))
   claim-good at left right e through confirming =
       record {
         body = g .body;
@@ -296,16 +296,16 @@ module _ {done : List Bytes} {f : File} (line : Bytes) (g : Good done f) where
         claims-read = claims;
         claim-said = λ c k. (line, Memᴰ·append-right done (List·Memᴰ·head refl), said-here c (cc));
         claim-last = λ c k. last c (cc);
-        confirmed = λ c k. own c (cc);
+        fits = λ c k. own c (cc);
       }
     where
       claim : f .claim ≡ none
       claim = g .no-claim (omega (arith, follows-once (f .stage) claimed (omega arith) (not-false _ (passes 4 (claimTests f left right) through))))
 
       own : (c : Claim) → record { line = at; left = left; right = right } ≡ c
-          → Confirmed (decoded (f .body .nodes) (c .left)) (decoded (f .body .nodes) (c .right)) (atomsGiven (f .model))
+          → ModelFits (decoded (f .body .nodes) (c .left)) (decoded (f .body .nodes) (c .right)) (atomsGiven (f .model))
       own c k =
-          subst (λ (d : Claim). Confirmed (decoded (f .body .nodes) (d .left)) (decoded (f .body .nodes) (d .right)) (atomsGiven (f .model))) k
+          subst (λ (d : Claim). ModelFits (decoded (f .body .nodes) (d .left)) (decoded (f .body .nodes) (d .right)) (atomsGiven (f .model))) k
           (model-passes-iff _ _ (atomsGiven (f .model)) .0 confirming)
 
       claims : (m : Bytes) (l r : List ℕ) → m ∈ done ++ line ∷ [] → lineOf m ≡ some (claimLine l r)
@@ -340,9 +340,9 @@ step-good {done} {f} {t} p line g e = read (lineOf line) refl e
     settle o at u k good = let s = settled-next o at u t k in subst (Good (done ++ line ∷ [])) (s .1) (good (s .0))
 
     claim : (l r : List ℕ) → lineOf line ≡ some (claimLine l r) → (o : Option ℕ) → first (claimTests f l r) ≡ o
-        → after (settled o (p .line) f) (λ g. settled (first (confirmationTests g l r)) (reportedOn (g .model) (p .line))
+        → after (settled o (p .line) f) (λ g. settled (first (claimModelTests g l r)) (reportedOn (g .model) (p .line))
         (withClaim g (record { line = p .line; left = l; right = r }))) ≡ next t → Good (done ++ line ∷ []) t
-    claim l r q none through k = settle (first (confirmationTests f l r)) _ _ k (claim-good line g (p .line) l r q through)
+    claim l r q none through k = settle (first (claimModelTests f l r)) _ _ k (claim-good line g (p .line) l r q through)
     claim l r q (some n) through k = let z : _≡_ {A = ℕ} 0 1 = cc in absurd (omega arith)
 
     read : (o : Option Line) → lineOf line ≡ o → orBadLine o p (stepRead f p line) ≡ next t → Good (done ++ line ∷ []) t
@@ -382,5 +382,5 @@ good-start =
       claims-read = λ line l r m e. absurd (List·Memᴰ·not-nil m);
       claim-said = λ c k. absurd (no-such refl k);
       claim-last = λ c k. absurd (no-such refl k);
-      confirmed = λ c k. absurd (no-such refl k);
+      fits = λ c k. absurd (no-such refl k);
     }

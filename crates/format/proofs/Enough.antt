@@ -12,7 +12,7 @@ use borrow.Author.Tests.{eq-eqb, lt-leb, lt-ltb, le-ltb}
 use Rattle.equilibrium.specs.Meaning.{_∈_}
 use Rattle.format.specs.File.{Node, Row, Body, Stage}
 use Rattle.format.specs.Tables.{nodeRecord, mostFormulas, mostRows, mostEntries}
-use Rattle.format.specs.Tests.{first, rank, mayFollow, outOfOrder, refersAhead, sameNode, nodeTests, bodyTests}
+use Rattle.format.specs.Tests.{first, rank, goesOn, mayFollow, outOfOrder, refersAhead, sameNode, nodeTests, bodyTests}
 use Rattle.format.specs.Passing.{RowInstance}
 use Rattle.format.proofs.Booleans.{any-none, same-list}
 use Rattle.format.proofs.Tested.{PassedRow}
@@ -22,16 +22,16 @@ use Rattle.format.proofs.RowPasses.{row-passes-exactly}
 pub follow-later : (s t : Stage) → rank s < rank t → mayFollow s t ≡ true
 follow-later s t l = rw (lt-ltb (rank s) (rank t) l)
 
--- a stage that goes on
-pub follow-on : (s t : Stage) → rank s ≤ rank t → rank t < 3 → mayFollow s t ≡ true
-follow-on s t h l = cases (decLt (rank s) (rank t))
+-- a stage that goes on, or a later one
+pub follow-on : (s t : Stage) → rank s ≤ rank t → goesOn t ≡ true → mayFollow s t ≡ true
+follow-on s t h on = cases (decLt (rank s) (rank t))
   where
     cases : Dec (rank s < rank t) → mayFollow s t ≡ true
     cases (yes k) = follow-later s t k
-    cases (no n) = rw (le-ltb (rank s) (rank t) (omega arith), eq-eqb (rank s) (rank t) (omega arith), lt-ltb (rank t) 3 l)
+    cases (no n) = rw (le-ltb (rank s) (rank t) (omega arith), eq-eqb (rank s) (rank t) (omega arith), on)
 
 -- a kind that may follow, with the next number
-pub order-enough : (s t : Stage) (held n : ℕ) → rank s ≤ rank t → rank t < 3 → n ≡ held → outOfOrder s t held n ≡ false
+pub order-enough : (s t : Stage) (held n : ℕ) → rank s ≤ rank t → goesOn t ≡ true → n ≡ held → outOfOrder s t held n ≡ false
 order-enough s t held n h l e = rw (follow-on s t h l, eq-eqb n held e)
 
 -- the node of a record

@@ -4,7 +4,7 @@ pub mod Equal
 pub mod Fold
 pub mod Stepping
 pub mod Tested
-pub mod Confirmation
+pub mod ModelFits
 pub mod RowPasses
 pub mod GoodBodies
 pub mod Enough

@@ -12,7 +12,7 @@ use Rattle.format.specs.Text.{Bytes, onto, partsAt, lineFeed, linesOf, a
 use Rattle.format.specs.File.{Node, Row, File, atomsGiven}
 use Rattle.format.specs.Line.{Line, atomLine, formulaLine, rowLine, modelLine, claimLine, lineOf}
 use Rattle.format.specs.Tests.{Test, first, atomTests, formulaTests, rowTests, modelLineTests, claimTests}
-use Rattle.format.specs.Model.{modelTests, confirmationTests}
+use Rattle.format.specs.Model.{modelTests, claimModelTests}
 use Rattle.format.specs.Judged.{Place, Outcome, next, refused, settled, orBadLine, stepRead, step, after, below}
 use Rattle.format.specs.Judged.{withAtom, withNode, withRow, withModel, withClaim, reportedOn, nameStart}
 use Rattle.format.specs.Judged.{run, Ruling, turnedDown, orNoClaim, finish, runFrom, answerFrom}
@@ -59,7 +59,7 @@ module _ (f : File) (p : Place) (line : Bytes) where
   module _ (l r : List ℕ) (e : lineOf line ≡ some (claimLine l r)) where
     abbrev claiming : Outcome File → Outcome File
     claiming o =
-        after o (λ g. settled (first (confirmationTests g l r)) (reportedOn (g .model) (p .line)) (withClaim g (record { line = p .line; left = l; right = r })))
+        after o (λ g. settled (first (claimModelTests g l r)) (reportedOn (g .model) (p .line)) (withClaim g (record { line = p .line; left = l; right = r })))
 
     pub step-claim-refused : (n : ℕ) → first (claimTests f l r) ≡ some n → step f p line ≡ refused n (p .line)
     unfolding stepRead
@@ -67,7 +67,7 @@ module _ (f : File) (p : Place) (line : Bytes) where
 
     pub step-claim : first (claimTests f l r) ≡ none
         → step f p line
-        ≡ settled (first (confirmationTests f l r)) (reportedOn (f .model) (p .line)) (withClaim f (record { line = p .line; left = l; right = r }))
+        ≡ settled (first (claimModelTests f l r)) (reportedOn (f .model) (p .line)) (withClaim f (record { line = p .line; left = l; right = r }))
     unfolding stepRead
     step-claim k = step-well (claimLine l r) e ∙ ap (λ (o : Option ℕ). claiming (settled o (p .line) f)) k
 
@@ -101,9 +101,9 @@ step-refused f p line n l e = read (lineOf line) e
         cases (some m) q k = let same : m ≡ n = cc in omega (arith, numbered ts m h q)
 
     claim : (a b : List ℕ) (o : Option ℕ) → first (claimTests f a b) ≡ o
-        → after (settled o (p .line) f) (λ g. settled (first (confirmationTests g a b)) (reportedOn (g .model) (p .line))
+        → after (settled o (p .line) f) (λ g. settled (first (claimModelTests g a b)) (reportedOn (g .model) (p .line))
         (withClaim g (record { line = p .line; left = a; right = b }))) ≡ refused n l → 3 ≤ n
-    claim a b none q k = settle (confirmationTests f a b) _ _ (model-numbered _ _ (atomsGiven (f .model))) k
+    claim a b none q k = settle (claimModelTests f a b) _ _ (model-numbered _ _ (atomsGiven (f .model))) k
     claim a b (some m) q k = let same : m ≡ n = cc in omega (arith, numbered (claimTests f a b) m (omega arith) q)
 
     read : (o : Option Line) → orBadLine o p (stepRead f p line) ≡ refused n l → 3 ≤ n

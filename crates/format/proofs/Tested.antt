@@ -2,7 +2,7 @@
 use Prim.Native.Nat.{ℕ, _+_, _≤_, _<_}
 use native.Mathlib.Omega.{arith}
 use mathlib.Core.Path.{_≡_, refl}
-use mathlib.Core.Bool.{Bool, true, false, not, cond, _&&_, _||_}
+use mathlib.Core.Bool.{Bool, true, false, not, cond, _&&_, _||_, false≢true}
 use mathlib.Core.List.{List, [], _∷_}
 use mathlib.Core.Option.{none, some}
 use mathlib.Core.Logic.{_⊎_, inl, inr, ⊎-elim}
@@ -10,7 +10,7 @@ use lib.Dec.{eqb, ltb, leb}
 use lib.ListN.{length}
 use borrow.Author.Tests.{eqb-true, ltb-true, leb-false, ltb-false}
 use Rattle.format.specs.Text.{any}
-use Rattle.format.specs.File.{Row, Body, Stage}
+use Rattle.format.specs.File.{Row, Body, Stage, in-atoms, in-formulas, in-rows, modelled, claimed}
 use Rattle.format.specs.Tables.{leftPool, rightPool, mostRows, mostEntries}
 use Rattle.format.specs.Tests.{
   Test,
@@ -43,12 +43,19 @@ passes n (t ∷ ts) e = cases (t .applies) (eqb n (t .number)) e (passes n ts)
     cases false false k rest = rest k
 
 -- the stage that a line follows
+goes-on : (t : Stage) → goesOn t ≡ true → rank t < 3
+goes-on in-atoms e = omega arith
+goes-on in-formulas e = omega arith
+goes-on in-rows e = omega arith
+goes-on modelled e = absurd (false≢true e)
+goes-on claimed e = absurd (false≢true e)
+
 pub follows : (s t : Stage) → mayFollow s t ≡ true → (rank s < rank t) ⊎ ((rank s ≡ rank t) × (rank t < 3))
 follows s t e = cases (ltb (rank s) (rank t)) refl e
   where
     cases : (b : Bool) → ltb (rank s) (rank t) ≡ b → b || (eqb (rank s) (rank t) && goesOn t) ≡ true → (rank s < rank t) ⊎ ((rank s ≡ rank t) × (rank t < 3))
     cases true l k = inl (ltb-true _ _ l)
-    cases false l k = let parts = and-true (eqb (rank s) (rank t)) (goesOn t) k in inr (eqb-true _ _ (parts .0), ltb-true _ _ (parts .1))
+    cases false l k = let parts = and-true (eqb (rank s) (rank t)) (goesOn t) k in inr (eqb-true _ _ (parts .0), goes-on t (parts .1))
 
 -- M and C come once
 pub follows-once : (s t : Stage) → 3 ≤ rank t → mayFollow s t ≡ true → rank s < rank t

@@ -28,7 +28,7 @@ use Rattle.format.specs.Text.{Bytes, _<$>_, any, strictlyRising}
 use Rattle.format.specs.File.{Node, Row, Body, decodedAt, decoded, sequentOf}
 use Rattle.format.specs.Tables.{leftPool, rightPool, mostAtoms, mostRows, mostEntries, mostOnSide, mostBytes}
 use Rattle.format.specs.Tests.{first, notEarlier, listed, badSide, lastIs, premisesOf, bodyTests}
-use Rattle.format.specs.Model.{Confirmed, by-model}
+use Rattle.format.specs.Model.{ModelFits, model-fits}
 use Rattle.format.specs.Good.{GoodBody, GoodNames, GoodModel}
 use Rattle.format.specs.Passing.{RowInstance}
 use Rattle.format.specs.Document.{Document, written, namesIn, bodyOf, GoodDocument}
@@ -36,7 +36,7 @@ use Rattle.format.specs.Transcript.{plainNames, countTo, principals, for
 use Rattle.format.specs.Transcript.{Transcript, documentOf, ModelRises, TextFor}
 use Rattle.format.proofs.Booleans.{any-none, list-same}
 use Rattle.format.proofs.Tested.{PassedRow}
-use Rattle.format.proofs.Confirmation.{confirmed-same}
+use Rattle.format.proofs.ModelFits.{fits-same}
 use Rattle.format.proofs.GoodBodies.{at-end, joined-snoc}
 use Rattle.format.proofs.Enough.{row-enough}
 use Rattle.format.proofs.WrittenDocuments.{written-accepted, written-contents}
@@ -357,7 +357,7 @@ left-named (row d r F premises {s = s} inside i) A m = Memᴰ·append-right (pri
 
 -- a model that confirms the claim of a derivation over so many atoms can stand on an M line
 model-good : {L R : List Formula} (atoms : ℕ) (e : EndsIn L R) → ((p : ℕ) → p ∈ atomsIn (formulasIn (e .derivation)) → p < atoms)
-    → (m : Option (List ℕ)) → ModelRises m → Confirmed L R m → (given : List ℕ) → m ≡ some given → GoodModel atoms given
+    → (m : Option (List ℕ)) → ModelRises m → ModelFits L R m → (given : List ℕ) → m ≡ some given → GoodModel atoms given
 model-good atoms e below none rises c given k = let z : _≡_ {A = ℕ} 0 1 = cc in absurd (omega arith)
 model-good {L} {R} atoms e below (some T) rises c given k = subst (GoodModel atoms) same (good c)
   where
@@ -367,8 +367,8 @@ model-good {L} {R} atoms e below (some T) rises c given k = subst (GoodModel ato
     occurs : atomsIn L ⊆ atomsIn (formulasIn (e .derivation))
     occurs = atoms-part (λ A m. left-named (e .derivation) A (e .ends .left .1 A m))
 
-    good : Confirmed L R (some T) → GoodModel atoms T
-    good (by-model wanted few q) =
+    good : ModelFits L R (some T) → GoodModel atoms T
+    good (model-fits wanted few q) =
         record {
           known = none-later atoms T (λ p m. below p (occurs p (only-occurring q p m)));
           side = rw (rises, le-ltb mostOnSide (length T) (omega arith));
@@ -398,7 +398,7 @@ named-text names good {L} {R} e below =
     document : Option (List ℕ) → Document
     document m = documentOf names t m (last .1 .left) (last .1 .right)
 
-    document-good : (m : Option (List ℕ)) → ModelRises m → Confirmed L R m → Within (bodyOf (document m))
+    document-good : (m : Option (List ℕ)) → ModelRises m → ModelFits L R m → Within (bodyOf (document m))
         → length (written (document m)) ≤ mostBytes → GoodDocument (document m)
     document-good m rises c w short =
         record {
@@ -406,7 +406,7 @@ named-text names good {L} {R} e below =
           body = t .good w;
           model = model-good (length names) e below m rises c;
           claim = last-is (t .rows) (last .0) (last .1) (last .2) (last .3 .kind);
-          confirmed = confirmed-same (≈-sym (last .3 .left)) (≈-sym (last .3 .right)) c;
+          fits = fits-same (≈-sym (last .3 .left)) (≈-sym (last .3 .right)) c;
           short = short;
         }
 

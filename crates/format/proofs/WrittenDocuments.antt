@@ -15,7 +15,7 @@ use Rattle.format.specs.Line.{Line, atomLine, formulaLine, rowLine, mode
 use Rattle.format.specs.Tables.{Lent, tooShort, encode, mostAtoms, mostFormulas, mostRows, mostBytes}
 use Rattle.format.specs.Tests.{_when_, first, rank, outOfOrder, notEarlier, unknownFormula, listed, refersAhead, badSide, lastIs}
 use Rattle.format.specs.Tests.{atomTests, nodeTests, formulaTests, bodyTests, rowTests, modelLineTests, claimTests}
-use Rattle.format.specs.Model.{Confirmed}
+use Rattle.format.specs.Model.{ModelFits}
 use Rattle.format.specs.Judged.{Place, Outcome, next, settled, step, after, below, run}
 use Rattle.format.specs.Judged.{top, beginning, accepted, finish, answerFrom, judged, contents, heldBy}
 use Rattle.format.specs.Judged.{withAtom, withNode, withRow, withModel, withClaim, reportedOn, nameStart}
@@ -29,7 +29,7 @@ use Rattle.format.proofs.Stepping.{first-passes, step-atom, step-formul
 use Rattle.format.proofs.Tested.{passes, PassedRow, passed-row}
 use Rattle.format.proofs.GoodBodies.{Distinct, distinct-apart, Held, good-held}
 use Rattle.format.proofs.Enough.{follow-later, order-enough}
-use Rattle.format.proofs.Confirmation.{model-passes-iff}
+use Rattle.format.proofs.ModelFits.{model-passes-iff}
 use Rattle.format.proofs.Accepted.{last-row}
 use Rattle.format.proofs.Joined.{each-append}
 use Rattle.format.proofs.WrittenLines.{fields-back, line-back, lines-back}
@@ -129,7 +129,7 @@ names-lead (name ∷ names) p k total before e l form apart =
 
     passing : first (atomTests (atomFile k before) k name) ≡ none
     passing =
-        let order = order-enough in-atoms in-atoms k k (omega arith) (omega arith) refl in
+        let order = order-enough in-atoms in-atoms k k (omega arith) refl refl in
         let new = new-name name before (distinct-apart [] (spellings before) name names apart) in
         rw (order, lt-leb mostAtoms k (omega arith), is-name, new)
 
@@ -268,7 +268,7 @@ body-leads names (formula {b} g none-yet node ok) good = add (body-leads names g
         passing : first (formulaTests now (length (b .nodes)) node) ≡ none
         passing =
             let h = before .no-rows none-yet in
-            let order = order-enough (before .stage) in-formulas (length (b .nodes)) (length (b .nodes)) h (omega arith) refl in
+            let order = order-enough (before .stage) in-formulas (length (b .nodes)) (length (b .nodes)) h refl refl in
             first-passes (4 when outOfOrder (before .stage) in-formulas (length (b .nodes)) (length (b .nodes))) (nodeTests b node) order ∙ ok
 
         stepped : step now (past top (linesBefore names b)) (bytesOf line) ≡ next (withNode now node)
@@ -301,7 +301,7 @@ body-leads names (row {b} g r ok) good = add (body-leads names g good)
         passing : first (rowTests now (length (b .rows)) r) ≡ none
         passing =
             let h = before .no-model in
-            let order = order-enough (before .stage) in-rows (length (b .rows)) (length (b .rows)) h (omega arith) refl in
+            let order = order-enough (before .stage) in-rows (length (b .rows)) (length (b .rows)) h refl refl in
             first-passes (4 when outOfOrder (before .stage) in-rows (length (b .rows)) (length (b .rows))) (bodyTests b r) order ∙ ok
 
         stepped : step now (past top (linesBefore names b)) (bytesOf line) ≡ next (withRow now r)
@@ -350,7 +350,7 @@ module _ (names : List Name) (b : Body) (held : Held b) (left right : List ℕ) 
       let r = at .right-side in
       (rw l at (h .left-known), rw r at (h .right-known), rw l at (h .left-good), rw r at (h .right-good))
 
-  claim-leads : (s : Stage) → rank s ≤ 3 → (m : Option Model) → Confirmed (decoded (b .nodes) left) (decoded (b .nodes) right) (atomsGiven m) → (p : Place)
+  claim-leads : (s : Stage) → rank s ≤ 3 → (m : Option Model) → ModelFits (decoded (b .nodes) left) (decoded (b .nodes) right) (atomsGiven m) → (p : Place)
       → Leads p (claimLine left right ∷ []) (unclaimed names s m b) (withClaim (unclaimed names s m b) (record { line = p .line; left = left; right = right }))
   claim-leads s h m confirmed p = leads-cons writable stepped (leads-nil refl)
     where
@@ -417,7 +417,7 @@ module _ (d : Document) (good : GoodDocument d) where
       let held = good-held (good .body) in
       let model = models-lead names (bodyOf d) held (to-body .stage) (to-body .no-model) model-place (d .model) (good .model) in
       let given : Option Model = modelOn (model-place .line) <$> d .model in
-      let confirmed = subst (Confirmed _ _) (same-atoms (d .model)) (good .confirmed) in
+      let confirmed = subst (ModelFits _ _) (same-atoms (d .model)) (good .fits) in
       let claim = claim-leads names (bodyOf d) held (d .left) (d .right) (good .claim) (model .0) (model .1) given confirmed claim-place in
       let file : ℕ → Option Model → File =
       λ n m. withClaim (unclaimed names (model .0) m (bodyOf d)) (record { line = n; left = d .left; right = d .right }) in

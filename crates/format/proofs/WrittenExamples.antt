@@ -13,7 +13,7 @@ use Rattle.format.specs.Text.{Bytes, bytes, sameList, isName, strictlyRi
 use Rattle.format.specs.File.{Node, formulas}
 use Rattle.format.specs.Line.{makeRow}
 use Rattle.format.specs.Tests.{wrongPremises, wrongStep}
-use Rattle.format.specs.Model.{contradiction}
+use Rattle.format.specs.Model.{none-wanted}
 use Rattle.format.specs.Good.{GoodBody, atoms, formula, row}
 use Rattle.format.specs.Written.{parted, ended, digits, decimal, listBytes, principalBytes, bytesOf}
 use Rattle.format.specs.Document.{Document, written, bodyOf, GoodDocument}
@@ -63,7 +63,7 @@ whole-good =
       body = rows;
       model = λ given e. let z : _≡_ {A = ℕ} 0 1 = cc in absurd (omega arith);
       claim = refl;
-      confirmed = contradiction (λ A m. List·Memᴰ·eq-of-singleton m);
+      fits = none-wanted (λ A m. List·Memᴰ·eq-of-singleton m);
       short = lit≤ tt;
     }
   where

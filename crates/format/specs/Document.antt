@@ -1,4 +1,4 @@
--- A whole file to be written: its parts, its lines and its text; the file that the text comes to; and what 01 asks of it
+-- A whole file to be written: its parts, its lines and its text; the file that the text comes to; and what the papers ask of it
 -- besides the form of its lines. WrittenDocuments proves that every good one is accepted as written.
 use Prim.Native.Nat.{ℕ, _+_, _-_, _≤_}
 use mathlib.Core.Path.{_≡_}
@@ -11,7 +11,7 @@ use Rattle.format.specs.File.{Node, Row, Name, Model, Body, claimed, Fil
 use Rattle.format.specs.Line.{Line, atomLine, formulaLine, rowLine, modelLine, claimLine}
 use Rattle.format.specs.Tables.{mostBytes}
 use Rattle.format.specs.Tests.{lastIs}
-use Rattle.format.specs.Model.{Confirmed}
+use Rattle.format.specs.Model.{ModelFits}
 use Rattle.format.specs.Good.{GoodBody, GoodNames, GoodModel}
 use Rattle.format.specs.Written.{decimal, bytesOf, textOf}
 
@@ -89,7 +89,7 @@ fileOf d =
 
 -- ---- what is asked of it
 
--- all that 01 asks of a file but for the tables lent with it
+-- all that 01 and 02 ask of a file but for the tables lent with it
 pub record GoodDocument (d : Document) : Type 0 where
   -- names of 01's form, no two alike
   pub names : GoodNames (length (d .names)) (namesIn (d .names))
@@ -100,6 +100,6 @@ pub record GoodDocument (d : Document) : Type 0 where
   -- the last row is an ELK row with exactly the claim's sides
   pub claim : lastIs (d .rows) (d .left) (d .right) ≡ true
   -- the M line confirms the claim, or there is none and the claim reports a contradiction
-  pub confirmed : Confirmed (decoded (d .nodes) (d .left)) (decoded (d .nodes) (d .right)) (d .model)
+  pub fits : ModelFits (decoded (d .nodes) (d .left)) (decoded (d .nodes) (d .right)) (d .model)
   -- as many bytes as a text may have
   pub short : length (written d) ≤ mostBytes

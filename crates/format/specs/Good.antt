@@ -9,11 +9,11 @@ use lib.ListN.{length, getD}
 use Rattle.equilibrium.specs.Meaning.{_∈_}
 use Rattle.elk.specs.Sequent.{Sequent}
 use Rattle.format.specs.Text.{Bytes, any, isName}
-use Rattle.format.specs.File.{Node, Row, Name, Model, Claim, Body, File, atomsGiven, addNode, addRow, sequentOf, decoded}
+use Rattle.format.specs.File.{Node, Row, Name, Model, Claim, Body, in-atoms, in-formulas, in-rows, modelled, claimed, File, atomsGiven, addNode, addRow, sequentOf, decoded}
 use Rattle.format.specs.Line.{claimLine, lineOf}
 use Rattle.format.specs.Tables.{mostAtoms}
 use Rattle.format.specs.Tests.{first, rank, notEarlier, badSide, nodeTests, bodyTests, lastIs}
-use Rattle.format.specs.Model.{Confirmed}
+use Rattle.format.specs.Model.{ModelFits}
 use Rattle.format.specs.Judged.{saidBy}
 
 -- so many atoms, and nothing else
@@ -50,18 +50,18 @@ pub record GoodModel (atoms : ℕ) (model : List ℕ) : Type 0 where
 pub record Good (done : List Bytes) (f : File) : Type 0 where
   pub body : GoodBody (f .body)
   pub names : GoodNames (f .body .atoms) (f .names)
-  pub no-nodes : rank (f .stage) ≤ 0 → f .body .nodes ≡ []
-  pub no-rows : rank (f .stage) ≤ 1 → f .body .rows ≡ []
-  pub no-model : rank (f .stage) ≤ 2 → f .model ≡ none
-  pub model-made : rank (f .stage) ≡ 3 → (m : Model) × (f .model ≡ some m)
+  pub no-nodes : rank (f .stage) ≤ rank in-atoms → f .body .nodes ≡ []
+  pub no-rows : rank (f .stage) ≤ rank in-formulas → f .body .rows ≡ []
+  pub no-model : rank (f .stage) ≤ rank in-rows → f .model ≡ none
+  pub model-made : rank (f .stage) ≡ rank modelled → (m : Model) × (f .model ≡ some m)
   pub model : (m : Model) → f .model ≡ some m → GoodModel (f .body .atoms) (m .atoms)
-  pub no-claim : rank (f .stage) ≤ 3 → f .claim ≡ none
-  pub claim-made : 4 ≤ rank (f .stage) → (c : Claim) × (f .claim ≡ some c)
+  pub no-claim : rank (f .stage) ≤ rank modelled → f .claim ≡ none
+  pub claim-made : rank (f .stage) ≡ rank claimed → (c : Claim) × (f .claim ≡ some c)
   pub said : saidBy done ≡ record { names = spellings (f .names); nodes = f .body .nodes; model = atomsGiven (f .model) }
   pub claims-read :
       (line : Bytes) (l r : List ℕ) → line ∈ done → lineOf line ≡ some (claimLine l r)
       → (c : Claim) × (f .claim ≡ some c) × (c .left ≡ l) × (c .right ≡ r)
   pub claim-said : (c : Claim) → f .claim ≡ some c → (line : Bytes) × (line ∈ done) × (lineOf line ≡ some (claimLine (c .left) (c .right)))
   pub claim-last : (c : Claim) → f .claim ≡ some c → lastIs (f .body .rows) (c .left) (c .right) ≡ true
-  pub confirmed :
-      (c : Claim) → f .claim ≡ some c → Confirmed (decoded (f .body .nodes) (c .left)) (decoded (f .body .nodes) (c .right)) (atomsGiven (f .model))
+  pub fits :
+      (c : Claim) → f .claim ≡ some c → ModelFits (decoded (f .body .nodes) (c .left)) (decoded (f .body .nodes) (c .right)) (atomsGiven (f .model))

@@ -12,7 +12,7 @@ use Rattle.format.specs.File.{Node, Row, Model, Claim, in-atoms, in-form
 use Rattle.format.specs.Line.{Line, atomLine, formulaLine, rowLine, modelLine, claimLine, lineOf}
 use Rattle.format.specs.Tables.{Lent, tooShort, Contents, encode, mostBytes}
 use Rattle.format.specs.Tests.{Test, _when_, first, atomTests, formulaTests, rowTests, modelLineTests, claimTests}
-use Rattle.format.specs.Model.{Shown, confirmationTests}
+use Rattle.format.specs.Model.{Shown, claimModelTests}
 
 -- where a line stands: its number from 1, and the byte of the text at which it starts
 pub record Place : Type 0 where
@@ -24,7 +24,7 @@ pub data Outcome (S : Type 0) : Type 0 where
   next : S → Outcome S
   refused : ℕ → ℕ → Outcome S
 
--- the file with one line more, where no test applies; the line that a refusal belongs to
+-- this file, where no test applies; else the refusal, with the line that it belongs to
 abbrev pub settled : Option ℕ → ℕ → File → Outcome File
 settled none line f = next f
 settled (some n) line f = refused n line
@@ -70,7 +70,7 @@ abbrev pub reportedOn : Option Model → ℕ → ℕ
 reportedOn none line = line
 reportedOn (some m) line = m .line
 
--- a line that is well written
+-- a line that is well written; a claim's own tests come first, and only where these pass those of its model
 unfoldable pub stepRead : File → Place → Bytes → Line → Outcome File
 stepRead f p line (atomLine n name) = settled (first (atomTests f n name)) (p .line) (withAtom f (nameStart p line) name)
 stepRead f p line (formulaLine n node) = settled (first (formulaTests f n node)) (p .line) (withNode f node)
@@ -78,7 +78,7 @@ stepRead f p line (rowLine n r) = settled (first (rowTests f n r)) (p .line) (wi
 stepRead f p line (modelLine atoms) = settled (first (modelLineTests f atoms)) (p .line) (withModel f (record { line = p .line; atoms = atoms }))
 stepRead f p line (claimLine left right) =
     after (settled (first (claimTests f left right)) (p .line) f)
-    (λ g. settled (first (confirmationTests g left right)) (reportedOn (g .model) (p .line)) (withClaim g (record { line = p .line; left = left; right = right })))
+    (λ g. settled (first (claimModelTests g left right)) (reportedOn (g .model) (p .line)) (withClaim g (record { line = p .line; left = left; right = right })))
 
 -- a line that is badly written is refused with 3
 abbrev pub orBadLine : Option Line → Place → (Line → Outcome File) → Outcome File
@@ -106,7 +106,7 @@ top = record { line = 1; start = 0 }
 unfoldable pub beginning : Bytes → Outcome File
 beginning text = run step top (linesOf text .complete) noFile
 
--- 01's number and line
+-- number and line of the papers
 pub data Ruling : Type 0 where
   accepted : ℕ → Ruling
   turnedDown : ℕ → ℕ → Ruling
@@ -165,7 +165,7 @@ contents t text = heldBy (judged t text) (beginning text)
 
 -- the text's claim, read off its own lines with no regard to the judgement
 
--- what lines have said so far: the names of atoms and the formulas, each in its order, and the atoms of the M line
+-- what lines have said so far: the names of atoms and the formulas, each in its order, and the atoms of the last M line
 pub record Said : Type 0 where
   pub names : List Bytes
   pub nodes : List Node
@@ -193,7 +193,7 @@ saidBy lines = saidAfter (record { names = []; nodes = []; model = none }) lines
 abbrev pub nodesIn : Bytes → List Node
 nodesIn text = saidBy (linesOf text .complete) .nodes
 
--- the atoms of its M line, if there is one
+-- the atoms of its M line, if there is one; of the last, if there are several
 abbrev pub modelIn : Bytes → Option (List ℕ)
 modelIn text = saidBy (linesOf text .complete) .model
 

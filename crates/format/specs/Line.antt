@@ -1,4 +1,5 @@
--- One line, as it is written (paper 01, "The text"): fields parted by tabs, of which the first says the kind of the line.
+-- One line, as it is written (paper 01, "The text"; the M line is of 02, M-101): fields parted by tabs, of which the first says the
+-- kind of the line.
 -- What a line says is read with no regard to the lines before it.
 use Prim.Native.Nat.{ℕ}
 use mathlib.Core.Bool.{cond, _&&_}

@@ -19,6 +19,7 @@ use Rattle.format.specs.Tests.{Test, _when_, isNo}
 abbrev pub Contradiction : List Formula → Type 0
 Contradiction R = (A : Formula) → A ∈ R → A ≡ falsum
 
+-- this is decided
 unfoldable pub contradiction? : (R : List Formula) → Dec (Contradiction R)
 unfolding dec-all formula-discrete
 contradiction? R = dec-all (λ A. formula-discrete A falsum) R
@@ -34,14 +35,14 @@ modelTests L R none = (15 when isNo (contradiction? R)) ∷ []
 modelTests L R (some T) = (15 when not (isNo (contradiction? R))) ∷ (16 when ltb mostInModel (length T)) ∷ (17 when isNo (equilibrium? L T)) ∷ []
 
 -- the same for a claim of these two lists of formula numbers
-abbrev pub confirmationTests : File → List ℕ → List ℕ → List Test
-confirmationTests f left right = modelTests (decoded (f .body .nodes) left) (decoded (f .body .nodes) right) (atomsGiven (f .model))
+abbrev pub claimModelTests : File → List ℕ → List ℕ → List Test
+claimModelTests f left right = modelTests (decoded (f .body .nodes) left) (decoded (f .body .nodes) right) (atomsGiven (f .model))
 
 -- what passing them is: a model is there exactly if the claim reports no contradiction, and then it has few atoms and is an
 -- equilibrium model of L
-pub data Confirmed (L R : List Formula) : Option (List ℕ) → Type 0 where
-  by-model : {T : List ℕ} → (Contradiction R → ⊥) → length T ≤ mostInModel → Equilibrium L T → Confirmed L R (some T)
-  contradiction : Contradiction R → Confirmed L R none
+pub data ModelFits (L R : List Formula) : Option (List ℕ) → Type 0 where
+  model-fits : {T : List ℕ} → (Contradiction R → ⊥) → length T ≤ mostInModel → Equilibrium L T → ModelFits L R (some T)
+  none-wanted : Contradiction R → ModelFits L R none
 
 -- What acceptance says of a claim besides that it does not fail: confirmed, since the sheet L has an equilibrium model, the one
 -- on the M line; or a contradiction shown, since R holds nothing but falsum and L has no equilibrium model.

@@ -1,5 +1,5 @@
--- What each kind of line can be refused for (paper 01, "How a text is turned down"): a list of tests, each under its
--- number, of which the first that applies is given.
+-- What each kind of line can be refused for (paper 01, "How a text is turned down", and 02, M-101, for the M line): a list of
+-- tests, each under its number, of which the first that applies is given.
 use Prim.Native.Nat.{ℕ, _+_}
 use mathlib.Core.Bool.{Bool, true, false, cond, not, _&&_, _||_}
 use mathlib.Core.List.{List, [], _∷_, _++_, map}
@@ -36,9 +36,13 @@ rank in-rows = 2
 rank modelled = 3
 rank claimed = 4
 
--- lines of this stage may follow one another: M and C come once
+-- lines of this stage may follow one another; M and C come once
 abbrev pub goesOn : Stage → Bool
-goesOn t = ltb (rank t) (rank modelled)
+goesOn in-atoms = true
+goesOn in-formulas = true
+goesOn in-rows = true
+goesOn modelled = false
+goesOn claimed = false
 
 -- a line of stage t may follow stage s: it begins a later stage, or goes on with the same one
 abbrev pub mayFollow : Stage → Stage → Bool

@@ -15,7 +15,7 @@ use Rattle.format.specs.Text.{Bytes, bytes, strictlyRising, _<$>_}
 use Rattle.format.specs.File.{Node, Row, Body, formulas, decodedAt, decoded, sequentOf}
 use Rattle.format.specs.Tables.{Lent, tooShort, leftPool, rightPool, encode, mostAtoms, mostFormulas, mostRows, mostEntries, mostOnSide, mostBytes}
 use Rattle.format.specs.Tests.{premisesOf}
-use Rattle.format.specs.Model.{Confirmed}
+use Rattle.format.specs.Model.{ModelFits}
 use Rattle.format.specs.Judged.{accepted, judged, contents}
 use Rattle.format.specs.Good.{GoodBody}
 use Rattle.format.specs.Written.{decimal}
@@ -102,7 +102,7 @@ pub record TextFor (names : List Bytes) {L R : List Formula} (e : EndsIn L R) : 
   pub claims-left : decoded (transcript .nodes) left ≈ L
   pub claims-right : decoded (transcript .nodes) right ≈ R
   pub accepted-if :
-      (model : Option (List ℕ)) → ModelRises model → Confirmed L R model → Within (bodyOf (documentOf names transcript model left right))
+      (model : Option (List ℕ)) → ModelRises model → ModelFits L R model → Within (bodyOf (documentOf names transcript model left right))
       → length (written (documentOf names transcript model left right)) ≤ mostBytes
       → (t : Lent) → tooShort t ≡ false
       → (judged t (written (documentOf names transcript model left right)) ≡ accepted (length (linesIn (documentOf names transcript model left right))))

@@ -1,4 +1,4 @@
--- The promise of the whole-file call: demands 1 and 3 of the paper, for any text and any lent tables.
+-- The promise of the whole-file call: demands 1 and 3, and what paper 02 adds to acceptance (M-101), for any text and any lent tables.
 use mathlib.Core.Path.{_≡_}
 use Rattle.format.specs.Text.{Bytes}
 use Rattle.equilibrium.specs.Meaning.{_∈_}

@@ -339,6 +339,7 @@ module _ (text : Bytes) (start : ℕ) (line : Bytes) (number : ℕ) (s : State) 
             (subst (λ (x : Stepped). Stored text (withAtom f (nameStart p line) (nameIn line)) (x .state) (withNames t (namesWith names s start line)))
             (sym given)
             (atom-stored at f p stored (good .names .count) size placed (passed .0) (passed .1) number));
+        own-line = λ z. ap (λ (x : Stepped). x .line) given;
         keeps =
             keeps-passed (ap (λ (x : Stepped). x .number) given)
             (record {

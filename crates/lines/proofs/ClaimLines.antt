@@ -13,7 +13,7 @@ use Rattle.format.specs.File.{Row, Model, Claim, claimed, File, atomsGiven, dec
 use Rattle.format.specs.Line.{lineOf}
 use Rattle.format.specs.Tables.{mostOnSide}
 use Rattle.format.specs.Tests.{Test, _when_, rank, first, unknownFormula, badSide, lastIs, claimTests}
-use Rattle.format.specs.Model.{modelTests, confirmationTests}
+use Rattle.format.specs.Model.{modelTests, claimModelTests}
 use Rattle.format.specs.Judged.{Place, refused, settled, step, withClaim, reportedOn}
 use Rattle.format.specs.Good.{Good}
 use Rattle.format.proofs.Booleans as booleans
@@ -30,9 +30,9 @@ use Rattle.rows.proofs.EarlyTests.{past-listed}
 use Rattle.rows.proofs.Numbering.{first-append, numbered-some}
 use Rattle.atomset.specs.AtomSet.{members}
 use Rattle.models.specs.Models.{Given, ModelNumbered}
-use Rattle.state.specs.State.{refusedBy, claimedBy, modelAtoms, modelLine, Memory, Stored}
+use Rattle.state.specs.State.{refusedBy, claimedBy, modelReport, modelAtoms, modelLine, Memory, Stored}
 use Rattle.state.specs.Lined.{OfKind}
-use Rattle.lines.specs.ClaimLines.{claimOf, modelReport, withTables, ClaimSettled, ClaimLined}
+use Rattle.lines.specs.ClaimLines.{claimOf, withTables, ClaimSettled, ClaimLined}
 use Rattle.state.specs.declared.State.{State}
 use Rattle.state.specs.declared.Stepped.{Stepped}
 use Rattle.lines.proofs.LineLaws.{claimWritten, line-claim, line-no-claim, not-listed, is-listed, list-laid, number-given, none-given, nodes-held, rows-held}
@@ -166,7 +166,7 @@ module _ {text : Bytes} {f : File} {s : State} {t : Memory} (stored : Stored tex
         by false e = rw (without-model e) refl
 
     -- the number that was asked of the model is the first of 15, 16 and 17 that applies
-    model-earns : (k : ℕ) → ModelNumbered (t .formulas) xs ys given (s .model) k → numbered k ≡ first (confirmationTests f xs ys)
+    model-earns : (k : ℕ) → ModelNumbered (t .formulas) xs ys given (s .model) k → numbered k ≡ first (claimModelTests f xs ys)
     model-earns k told =
         told .judges (f .body) (atomsGiven (f .model)) (record { good = good .body; table = nodes-held stored }) (sided xs (known .0) (sides .0))
         (sided ys (known .1) (sides .1)) is-given
@@ -227,7 +227,7 @@ module _ (antecedent succedent : Listed) (number : ℕ) (l r formulas rows left 
 
       -- what the claim comes to by the number of its model
       confirms : {text : Bytes} {f : File} (t : Memory) {xs ys : List ℕ} {done : List Bytes} → Stored text f s (lent t) → Good done f
-          → Laid xs antecedent l → Laid ys succedent r → numbered n ≡ first (confirmationTests f xs ys)
+          → Laid xs antecedent l → Laid ys succedent r → numbered n ≡ first (claimModelTests f xs ys)
       confirms t {xs} {ys} stored good x y =
           model-earns stored good xs ys (unrefused t stored good x y) n
           (model-told (left-laid stored x y k e zero-k good) (right-laid stored x y k e zero-k good) model)
@@ -244,6 +244,7 @@ module _ (antecedent succedent : Listed) (number : ℕ) (l r formulas rows left 
                       (step-claim f p bytes xs ys read passed
                       ∙ number-given n _ (reportedOn (f .model) (p .line)) (withClaim f (claimAt (p .line) xs ys)) (confirms t stored good x y) h)
                       (sym on) given;
+                  own-line = λ z. absurd (h (sym (ap (λ (x : Stepped). x .number) given) ∙ z));
                   keeps = keeps-refused (lent t) given;
                 };
             keeps = λ t. keeps-refused t given;
@@ -263,6 +264,7 @@ module _ (antecedent succedent : Listed) (number : ℕ) (l r formulas rows left 
                       (ap (λ (z : Stepped). z .number) given)
                       (subst (λ (z : Stepped). Stored text (withClaim f claim) (z .state) (lent t)) (sym given)
                       (claim-stored stored number claim (sym at)));
+                  own-line = λ z. ap (λ (x : Stepped). x .line) given;
                   keeps = keeps-passed (ap (λ (z : Stepped). z .number) given) (same-lengths (lent t));
                 };
             keeps = λ t. keeps-passed (ap (λ (z : Stepped). z .number) given) (same-lengths t);

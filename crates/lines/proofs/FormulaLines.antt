@@ -389,6 +389,7 @@ module _ (line : Bytes) (number : ℕ) (s : State) (formulas notes : List ℕ) (
               steps-next r (withNode f m) (told t p good stored (ap entryRefusal is-new)) zero-number
               (subst (λ (x : State). Stored text (withNode f m) x (withFormulas t formulas′ notes′)) state-is
               (after t p good stored z key is-key more));
+          own-line = λ none-refused. ap (λ (x : Stepped). x .line) e;
           keeps =
               keeps-passed zero-number
               (record { names = refl; formulas = formulas-length more; notes = notes-length more; rows = refl; left = refl; right = refl });

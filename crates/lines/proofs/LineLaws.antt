@@ -254,6 +254,7 @@ module _ {text : Bytes} {start : ℕ} {line : Bytes} {number : ℕ} {s : State} 
   line-refused n t given by =
       record {
         steps = λ f p done good stored size placed at. steps-refused text t n number (by f p done good stored) at given;
+        own-line = λ z. ap (λ (x : Stepped). x .line) given;
         keeps = keeps-refused t given;
       }
 

@@ -150,6 +150,7 @@ module _ (atoms : Listed) (number : ℕ) (list : List ℕ) (s : State) (stepped 
                   (ap (λ (z : Stepped). z .number) given)
                   (subst (λ (z : Stepped). Stored text (withModel f model) (z .state) t) (sym given)
                   (model-stored stored w number model (list-members stored good x through w word) (sym at)));
+              own-line = λ z. ap (λ (x : Stepped). x .line) given;
               keeps = keeps-passed (ap (λ (z : Stepped). z .number) given) (same-lengths t);
             };
         keeps = λ t. keeps-passed (ap (λ (z : Stepped). z .number) given) (same-lengths t);

@@ -394,7 +394,8 @@ module _ (row : RowRead) (number : ℕ) (above l r formulas notes : List ℕ) (s
         → RowSettled row number above l r formulas notes s stepped rows left right rows′ left′ right′
     settled-stored passed rows′ left′ right′ w counts is-counts given =
         record {
-          lined = λ text line start n q t well h. record { steps = steps-stored text line start n q t well h; keeps = keeps t };
+          lined = λ text line start n q t well h.
+              record { steps = steps-stored text line start n q t well h; own-line = λ z. ap (λ (x : Stepped). x .line) given; keeps = keeps t };
           keeps = keeps;
         }
       where

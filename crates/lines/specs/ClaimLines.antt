@@ -1,14 +1,12 @@
--- C lines: the numbers that a claim earns before the last row is asked, the line that a refusal of its model belongs to, and what
--- the line comes to. No table changes.
+-- C lines: the numbers that a claim earns before the last row is asked, and what the line comes to. No table changes.
 use Prim.Native.Nat.{ℕ}
 use mathlib.Core.Path.{_≡_}
-use mathlib.Core.Bool.{cond, _||_}
+use mathlib.Core.Bool.{_||_}
 use mathlib.Core.List.{List, [], _∷_}
 use mathlib.Core.Option.{some}
-use lib.Dec.{eqb}
 use Rattle.format.specs.Text.{Bytes}
 use Rattle.format.specs.Line.{claimLine, lineOf}
-use Rattle.format.specs.File.{modelled, claimed}
+use Rattle.format.specs.File.{claimed}
 use Rattle.format.specs.Tests.{Test, _when_, rank}
 use Rattle.text.specs.declared.lists.Listed.{Listed}
 use Rattle.early.specs.Early.{pastOf, badOf}
@@ -25,10 +23,6 @@ claimOf left right s =
     ∷ (7 when pastOf left (s .counts .formulas) || pastOf right (s .counts .formulas))
     ∷ (9 when badOf left || badOf right)
     ∷ []
-
--- the M line's, or this one if the last line was no M line
-abbrev pub modelReport : State → ℕ → ℕ
-modelReport s number = cond (eqb (s .stage) (rank modelled)) (s .«model_line») number
 
 -- the contents with these formulas, rows and pools
 abbrev pub withTables : Memory → List ℕ → List ℕ → List ℕ → List ℕ → Memory

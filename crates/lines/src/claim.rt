@@ -4,7 +4,7 @@ ghost use Rattle.format.specs.Tests.{first};
 ghost use Rattle.early.specs.Early.{numbered};
 ghost use Rattle.parts.specs.Parts.{Fielded};
 ghost use Rattle.state.specs.Lined.{OfKind};
-ghost use Rattle.lines.specs.ClaimLines.{claimOf, modelReport, ClaimSettled, ClaimLined};
+ghost use Rattle.lines.specs.ClaimLines.{claimOf, ClaimSettled, ClaimLined};
 use counts::limits::MOST_ON_SIDE;
 use early::bad_sides;
 use early::past;
@@ -42,16 +42,6 @@ fn claim_number(antecedent: Listed, succedent: Listed, state: State) -> u32
     0
 }
 
-// The line that a refusal of the model belongs to: the M line, or the claim's own if there is none.
-fn model_report(state: State, number: u32) -> u32
-    ensures { λ r. ⌜ r ≡ modelReport state number ⌝ }
-{
-    if state.stage == MODELLED {
-        return state.model_line;
-    }
-    number
-}
-
 // A claim that is well written, by the tables that its lists were read into.
 fn settle_claim<'a>(
     antecedent: Listed,
@@ -81,7 +71,7 @@ fn settle_claim<'a>(
     let given = state.stage == MODELLED;
     let unconfirmed = model_number(formulas, left_side, right_side, given, state.model);
     if unconfirmed != 0 {
-        return state.refused(unconfirmed, model_report(state, number));
+        return state.refused(unconfirmed, state.model_report(number));
     }
     state.claimed(number)
 }

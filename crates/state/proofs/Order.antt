@@ -1,12 +1,12 @@
 -- The order of lines, by the numbers of the stages. Assumes nothing.
 use Prim.Native.Nat.{ℕ, _≤_, _<_}
 use native.Mathlib.Omega.{arith}
-use mathlib.Core.Path.{_≡_, refl, sym, ap, ap₂}
-use mathlib.Core.Bool.{Bool, true, false, not, _||_}
+use mathlib.Core.Path.{_≡_, refl, sym, ap, ap₂, _∙_}
+use mathlib.Core.Bool.{Bool, true, false, not, _&&_, _||_}
 use lib.Dec.{eqb, ltb, leb}
 use borrow.Author.Tests.{eq-eqb, ne-eqb, le-leb, lt-leb, lt-ltb, le-ltb, ltb-true, ltb-false}
-use Rattle.format.specs.File.{Stage, modelled}
-use Rattle.format.specs.Tests.{rank, mayFollow, outOfOrder}
+use Rattle.format.specs.File.{Stage, in-atoms, in-formulas, in-rows, modelled, claimed}
+use Rattle.format.specs.Tests.{rank, goesOn, mayFollow, outOfOrder}
 use Rattle.state.specs.State.{outOfTurn, notNext}
 
 module _ (stage coming : ℕ) where
@@ -35,10 +35,20 @@ module _ (stage coming : ℕ) where
     unfolding notNext
     order-number e = sym (ap (λ (b : Bool). b || not (eqb number held)) e)
 
+-- which stages go on, by their numbers
+goes-on : (t : Stage) → ltb (rank t) (rank modelled) ≡ goesOn t
+goes-on in-atoms = refl
+goes-on in-formulas = refl
+goes-on in-rows = refl
+goes-on modelled = refl
+goes-on claimed = refl
+
 pub turn-same : {stage : ℕ} (s t : Stage) → stage ≡ rank s → outOfTurn stage (rank t) ≡ not (mayFollow s t)
 unfolding outOfTurn
-turn-same s t e = ap (λ (k : ℕ). outOfTurn k (rank t)) e
+turn-same s t e =
+    ap (λ (k : ℕ). outOfTurn k (rank t)) e ∙ ap (λ (b : Bool). not (ltb (rank s) (rank t) || (eqb (rank s) (rank t) && b))) (goes-on t)
 
 pub order-same : {stage held : ℕ} (s t : Stage) (have n : ℕ) → stage ≡ rank s → held ≡ have → notNext stage (rank t) held n ≡ outOfOrder s t have n
 unfolding outOfTurn notNext
-order-same s t have n e k = ap₂ (λ (i j : ℕ). notNext i (rank t) j n) e k
+order-same s t have n e k =
+    ap₂ (λ (b : Bool) (j : ℕ). b || not (eqb n j)) (turn-same s t e) k

@@ -22,4 +22,6 @@ pub record Lined (text : Bytes) (start : ℕ) (line : Bytes) (number : ℕ) (s :
   pub steps :
       (f : File) (p : Place) (done : List Bytes) → Good done f → Stored text f s t → length text ≤ mostBytes → p .start ≡ start → p .line ≡ number
       → Steps text (step f p line) r u
+  -- a line that passes is given its own number
+  pub own-line : r .number ≡ 0 → r .line ≡ number
   pub keeps : Keeps s r t u

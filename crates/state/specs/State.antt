@@ -1,7 +1,7 @@
 -- What the lent tables and the state hold between two lines: the file that the accepted beginning comes to.
 use Prim.Native.Nat.{ℕ, _≤_, _*_}
 use mathlib.Core.Path.{_≡_}
-use mathlib.Core.Bool.{Bool, not, _&&_, _||_}
+use mathlib.Core.Bool.{Bool, cond, not, _&&_, _||_}
 use mathlib.Core.List.{List, []}
 use mathlib.Core.Option.{Option, none, some}
 use lib.Dec.{eqb, ltb}
@@ -53,6 +53,10 @@ claimedBy s line =
       line = line;
       state = record { counts = s .counts; stage = rank claimed; model = s .model; «model_line» = s .«model_line»; claim = line };
     }
+
+-- the line that a refusal of the model belongs to: the M line, if that was the last one, or this one
+abbrev pub modelReport : State → ℕ → ℕ
+modelReport s line = cond (eqb (s .stage) (rank modelled)) (s .«model_line») line
 
 -- a line of the stage `coming` may not follow, by the numbers of the stages
 unfoldable pub outOfTurn : ℕ → ℕ → Bool

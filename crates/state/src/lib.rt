@@ -1,6 +1,6 @@
 // What an accepted beginning has going besides its tables, handed in and back by value with each line.
 ghost use mathlib.Core.Path.{_≡_};
-ghost use Rattle.state.specs.State.{start, refusedBy, passedBy, modelledBy, claimedBy, outOfTurn, notNext};
+ghost use Rattle.state.specs.State.{start, refusedBy, passedBy, modelledBy, claimedBy, modelReport, outOfTurn, notNext};
 use counts::Counts;
 
 // The counts of what the tables hold; the stage, that is the kind of the last line; the atoms of the M line and its line, no atom
@@ -88,6 +88,16 @@ impl State {
                 claim: self.claim,
             },
         }
+    }
+
+    // The line that a refusal of the model belongs to: the M line, or the claim's own if there is none.
+    pub fn model_report(self, line: u32) -> u32
+        ensures { λ r. ⌜ r ≡ modelReport self line ⌝ }
+    {
+        if self.stage == MODELLED {
+            return self.model_line;
+        }
+        line
     }
 
     // The state after a claim that passed.

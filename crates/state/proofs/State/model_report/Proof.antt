@@ -1,7 +1,7 @@
--- `lines::claim::model_report` meets its contract. Assumes nothing.
+-- `state::State::model_report` meets its contract. Assumes nothing.
 use borrow.Author.Tests.{eq-eqb, ne-eqb}
-use Rattle.lines.proofs.claim.model_report.Statement.{statement}
-use Rattle.lines.proofs.claim.model_report.Tie as tie
+use Rattle.state.proofs.State.model_report.Statement.{statement}
+use Rattle.state.proofs.State.model_report.Tie as tie
 
 returns : tie.Need-returns
 returns c = simp (eq-eqb _ _ (c .if1 .taken))
