@@ -1,16 +1,15 @@
 -- The tests by the tables decide what they are for: where the formulas table begins with those of a good body, the numbers 15, 16 and 17
 -- are those of the claim's formulas. Assumes nothing.
-use Prim.Native.Nat.{ℕ, zero, suc, _+_, _-_, _^_, _≤_, _<_}
+use Prim.Native.Nat.{ℕ, zero, suc, _-_, _^_, _≤_, _<_}
 use native.Mathlib.Omega.{arith}
-use mathlib.Core.Bool.{Bool, true, false, not, _&&_, _||_, false≢true, Bool·not-not}
+use mathlib.Core.Bool.{Bool, true, false, not, false≢true, Bool·not-not}
 use mathlib.Core.List.{List, [], _∷_, map, List·Memᴰ·head, List·Memᴰ·tail, List·Memᴰ·not-nil, List·Memᴰ·cases-cons}
-use mathlib.Core.Logic.{_↔_, _⊎_, inl, inr, ⊎-elim}
+use mathlib.Core.Logic.{inl, inr, ⊎-elim}
 use mathlib.Core.Option.{Option, none, some}
 use mathlib.Core.Path.{_≡_, refl, sym, ap, ap₂, subst, _∙_}
 use borrow.Author.Tests.{eqb-true, eq-eqb}
 use lib.Dec.{eqb, ltb}
 use lib.ListN.{length}
-use lib.Pow.{pow-pos}
 use Rattle.equilibrium.specs.Formula.{Formula, falsum}
 use Rattle.equilibrium.specs.Meaning.{_∈_, Holds, AllHold, Equilibrium}
 use Rattle.equilibrium.proofs.Models.{equilibrium?}
@@ -27,9 +26,8 @@ use Rattle.atomset.proofs.SetOf.{member-setOf}
 use Rattle.tables.specs.Records.{nodeAt, recordFrom}
 use Rattle.tables.specs.Holding.{Formulas, Sided}
 use Rattle.tables.proofs.Reading.{told, by-word, by-formula}
-use Rattle.pairs.specs.Pairs.{holdsIn}
 use Rattle.pairs.specs.Parts.{part}
-use Rattle.pairs.specs.Truths.{truthOf, truthsThere, truthsHere}
+use Rattle.pairs.specs.Truths.{truthOf}
 use Rattle.pairs.proofs.Pairs.{Says, says-not, says-and, says-or, Names, holds-in-iff}
 use Rattle.pairs.proofs.Truths.{there-right, here-right}
 use Rattle.models.specs.Tested.{Upsets, Tested}
@@ -61,10 +59,12 @@ some-says {P} test s (suc k) =
 -- ---- the tests by the tables
 
 module _ {b : Body} {formulas : List ℕ} (g : Formulas b formulas) where
+  -- the truths of all its formulas are listed
   few : length (b .nodes) ≤ mostFormulas
   few = good-held (g .good) .few-nodes
 
   module _ (side : List ℕ) (sided : Sided b side) where
+    -- the side is of its formulas
     held : (i : ℕ) → i ∈ side → i < length (b .nodes)
     held = known-earlier b side (sided .known)
 
@@ -77,8 +77,8 @@ module _ {b : Body} {formulas : List ℕ} (g : Formulas b formulas) where
             let t = told g i (held i m) in
             (λ e. by-word t (eqb-true (recordFrom (nodeAt formulas i) .word) 0 e), λ e. eq-eqb (recordFrom (nodeAt formulas i) .word) 0 (by-formula t e))
 
-    -- 17: whether a pair satisfies the side
     module _ (t : ℕ) {T : List ℕ} (names : Names t T) where
+      -- 17: whether (t,t) satisfies the side
       there-says : Says (all (truthOf (thereIn formulas t)) side) (AllHold T T (decoded (b .nodes) side))
       unfolding thereIn
       there-says = each-says (decodedAt (b .nodes)) (truthOf (thereIn formulas t)) side own
@@ -88,6 +88,7 @@ module _ {b : Body} {formulas : List ℕ} (g : Formulas b formulas) where
               subst (λ (x : Bool). Says x (Holds T T (decodedAt (b .nodes) i))) (sym (there-right g t mostFormulas i (omega (arith, few, held i m)) (held i m)))
               (holds-in-iff (decodedAt (b .nodes) i) t t names names)
 
+      -- and a pair (h,t)
       here-says : (h : ℕ) {H : List ℕ} → Names h H → Says (all (truthOf (hereIn formulas h t)) side) (AllHold H T (decoded (b .nodes) side))
       unfolding thereIn hereIn
       here-says h {H} part-names = each-says (decodedAt (b .nodes)) (truthOf (hereIn formulas h t)) side own
@@ -98,12 +99,13 @@ module _ {b : Body} {formulas : List ℕ} (g : Formulas b formulas) where
               (sym (here-right g h t (truthOf (thereIn formulas t)) mostFormulas (there-right g t mostFormulas) i (omega (arith, few, held i m)) (held i m)))
               (holds-in-iff (decodedAt (b .nodes) i) h t part-names names)
 
-    -- whether the model is in equilibrium
     module _ (model : ℕ) (small : model < 2 ^ 64) where
+      -- whether part n upsets the model
       upsets-says : (n : ℕ) → Says (upsets formulas side model n) (Upsets (decoded (b .nodes) side) (members model) n)
       unfolding upsets
       upsets-says n = here-says model (member-members model small) (setOf (part n (members model))) (member-setOf (part n (members model)))
 
+      -- whether it passes the test against its parts
       tested-says : Says (inEquilibrium formulas side model) (Tested (decoded (b .nodes) side) (members model))
       unfolding inEquilibrium
       tested-says =
@@ -114,6 +116,7 @@ module _ {b : Body} {formulas : List ℕ} (g : Formulas b formulas) where
             λ t. both .1 (t .model, λ s. t .undisturbed (s .0) (omega (arith, s .1)) (s .2)),
           )
 
+      -- whether it is in equilibrium
       equilibrium-says : Says (inEquilibrium formulas side model) (Equilibrium (decoded (b .nodes) side) (members model))
       equilibrium-says =
           let exact = tested-iff (members-rising model) in
@@ -152,4 +155,5 @@ tests-agree {b} {formulas} {left} {right} given model (some T) g l r is small =
     equilibrium-same : not (inEquilibrium formulas left model) ≡ isNo (equilibrium? (decoded (b .nodes) left) T)
     equilibrium-same =
         sym (decided (inEquilibrium formulas left model) (equilibrium? (decoded (b .nodes) left) T)
-        (subst (λ (T : List ℕ). Says (inEquilibrium formulas left model) (Equilibrium (decoded (b .nodes) left) T)) (is .1) (equilibrium-says g left l model small)))
+        (subst (λ (T : List ℕ). Says (inEquilibrium formulas left model) (Equilibrium (decoded (b .nodes) left) T)) (is .1)
+        (equilibrium-says g left l model small)))

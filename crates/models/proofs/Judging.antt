@@ -4,12 +4,12 @@ use Prim.Native.Nat.{ℕ, zero, suc, _+_, _≤_, _<_, min}
 use native.Mathlib.Decide.{decLt}
 use native.Mathlib.Numerals.{add-one}
 use native.Mathlib.Omega.{arith}
-use mathlib.Core.Bool.{Bool, true, false, _&&_, _||_, or-true}
-use mathlib.Core.List.{List, [], _∷_, map, List·Memᴰ·head, List·Memᴰ·tail}
+use mathlib.Core.Bool.{Bool, true, false, not, _&&_, _||_, or-true}
+use mathlib.Core.List.{List, [], _∷_, List·Memᴰ·head, List·Memᴰ·tail}
 use mathlib.Core.Logic.{⊎-elim}
 use mathlib.Core.Path.{_≡_, refl, sym, ap, ap₂, _∙_}
 use lib.Dec.{eqb}
-use lib.ListN.{length, getD, drop, length-append, length-map, length-drop, List·getD-eq-default}
+use lib.ListN.{length, length-append, length-map, length-drop, List·getD-eq-default}
 use Rattle.equilibrium.specs.Meaning.{_∈_}
 use Rattle.format.specs.Text.{all}
 use Rattle.format.specs.Tables.{mostFormulas}
@@ -17,10 +17,11 @@ use Rattle.format.proofs.GoodBodies.{at-end}
 use Rattle.atomset.specs.AtomSet.{members, setOf}
 use Rattle.tables.specs.declared.records.NodeRecord.{NodeRecord}
 use Rattle.pairs.specs.Parts.{part}
-use Rattle.pairs.specs.Truths.{truthOf, thereBy, hereBy, truths, truthsHere, digit, noted, notedAt, NotedThere, NotedHere}
+use Rattle.pairs.specs.Truths.{truthOf, thereBy, hereBy, truths, truthsHere, noted, notedAt, NotedThere, NotedHere}
 use Rattle.pairs.proofs.Truths.{length-truths, truth-kept, truths-agree, noted-read}
-use Rattle.models.specs.Models.{thereIn, hereIn, upsets, NotesThere, someBelow}
+use Rattle.models.specs.Models.{thereIn, hereIn, upsets, NotesThere, someBelow, someUpsets, inEquilibrium}
 
+-- truths noted in front keep the table's length
 length-noted : (ts : List Bool) (table : List ℕ) → length ts ≤ length table → length (noted ts table) ≡ length table
 length-noted ts table h = simp (length-append, length-map, length-drop) (omega arith)
 
@@ -86,6 +87,20 @@ module _ (sheet : List ℕ) (model : ℕ) {formulas : List ℕ} {end : ℕ} (bel
           ∙ ap (λ (ts : List Bool). noted ts before)
           (truths-agree (λ i. hereBy h (notedAt there i)) (λ i. hereBy h (truthOf (thereIn formulas model) i)) formulas (min end (length before))
           (λ i l ts r. ap (λ (t : Bool). hereBy h t ts r) (notes i (omega arith))))
+
+-- ---- the answers
+
+module _ (formulas sheet : List ℕ) (model : ℕ) where
+  -- a model that does not satisfy the sheet
+  pub fails-itself : all (truthOf (thereIn formulas model)) sheet ≡ false → inEquilibrium formulas sheet model ≡ false
+  unfolding inEquilibrium
+  fails-itself e = ap (λ (x : Bool). x && not (someUpsets formulas sheet model)) e
+
+  -- one that does: as its parts say
+  pub by-parts : all (truthOf (thereIn formulas model)) sheet ≡ true → {answer : Bool} → answer ≡ not (someUpsets formulas sheet model)
+      → answer ≡ inEquilibrium formulas sheet model
+  unfolding inEquilibrium
+  by-parts e a = a ∙ sym (ap (λ (x : Bool). x && not (someUpsets formulas sheet model)) e)
 
 -- ---- some number below a bound
 

@@ -2,7 +2,7 @@
 use Prim.Native.Nat.{ℕ, _/_, _^_, _<_}
 use mathlib.Core.Bool.{Bool, true, false, _&&_, _||_, and-true, or-assoc, or-false}
 use mathlib.Core.List.{List, [], _∷_, List·Memᴰ·head}
-use mathlib.Core.Path.{_≡_, refl, sym, ap, ap₂, subst, _∙_}
+use mathlib.Core.Path.{_≡_, refl, sym, ap, subst, _∙_}
 use borrow.Author.Tests.{lt-ltb}
 use lib.Dec.{eqb, ltb}
 use Rattle.equilibrium.specs.Meaning.{_∈_}
@@ -14,6 +14,7 @@ use Rattle.atomset.proofs.SetOf.{setOf-lt}
 use Rattle.pairs.specs.Parts.{part}
 use Rattle.pairs.proofs.Parts.{part-inside}
 
+-- a word's members are below 64
 member-small : (set : ℕ) → set < 2 ^ 64 → (i : ℕ) → i ∈ members set → i < 64
 member-small set small i m = member-lt 64 set i small (member-members set small i .1 m)
 
@@ -30,6 +31,7 @@ part-cons n p ps i = by (has n 0)
 abbrev pub Taken : ℕ → ℕ → ℕ → ℕ → ℕ → Type 0
 Taken model n set rest digits = (i : ℕ) → has (setOf (part n (members model))) i ≡ (has set i || has (setOf (part digits (members rest))) i)
 
+-- at the start none is passed
 pub taken-none : (model n : ℕ) → Taken model n 0 model n
 taken-none model n i = ap (λ (x : Bool). x || has (setOf (part n (members model))) i) (sym (has-zero i))
 

@@ -1,12 +1,13 @@
 -- The tests 15, 16 and 17 of a claim (paper 02, M-101) by the formulas table, the sides as numbers and the model as one word. A table is
 -- any list of numbers, and so are the sides.
-use Prim.Native.Nat.{ℕ, zero, suc, _-_, _^_, _<_}
+use Prim.Native.Nat.{ℕ, zero, suc, _-_, _^_, _≤_, _<_}
 use mathlib.Core.Bool.{Bool, true, false, not, _&&_, _||_}
 use mathlib.Core.List.{List, [], _∷_}
 use mathlib.Core.Option.{Option, none, some}
 use mathlib.Core.Path.{_≡_}
 use lib.Dec.{eqb, ltb}
 use lib.ListN.{length}
+use Rattle.equilibrium.specs.Meaning.{_∈_}
 use Rattle.format.specs.Text.{all}
 use Rattle.format.specs.File.{Body, decoded}
 use Rattle.format.specs.Tables.{mostFormulas}
@@ -35,10 +36,6 @@ hereIn formulas h t = truthsHere formulas h (truthOf (thereIn formulas t)) mostF
 unfoldable pub upsets : List ℕ → List ℕ → ℕ → ℕ → Bool
 upsets formulas left model n = all (truthOf (hereIn formulas (setOf (part n (members model))) model)) left
 
--- a table notes the truths in (t,t) of the formulas below a number
-abbrev pub NotesThere : List ℕ → ℕ → ℕ → List ℕ → Type 0
-NotesThere formulas t end there = (i : ℕ) → i < end → notedAt there i ≡ truthOf (thereIn formulas t) i
-
 -- some number below k passes the test
 unfoldable pub someBelow : (ℕ → Bool) → ℕ → Bool
 someBelow test zero = false
@@ -51,6 +48,17 @@ someUpsets formulas left model = someBelow (upsets formulas left model) (2 ^ len
 -- the model satisfies the side, and no proper part upsets it
 unfoldable pub inEquilibrium : List ℕ → List ℕ → ℕ → Bool
 inEquilibrium formulas left model = all (truthOf (thereIn formulas model)) left && not (someUpsets formulas left model)
+
+-- a table notes the truths in (t,t) of the formulas below a number
+abbrev pub NotesThere : List ℕ → ℕ → ℕ → List ℕ → Type 0
+NotesThere formulas t end there = (i : ℕ) → i < end → notedAt there i ≡ truthOf (thereIn formulas t) i
+
+-- what the test of the parts rests on: few atoms, a number past the sheet's formulas, room for notes, and the notes on the model itself
+pub record Prepared (formulas sheet : List ℕ) (model end : ℕ) (there here : List ℕ) : Type 0 where
+  pub few : length (members model) ≤ mostInModel
+  pub below : (x : ℕ) → x ∈ sheet → x < end
+  pub room : length here ≡ mostFormulas
+  pub notes : NotesThere formulas model end there
 
 -- 15: a model is missing, or unwanted since the claim reports a contradiction; 16: it has too many atoms; 17: it is not in equilibrium
 abbrev pub testsIn : List ℕ → List ℕ → List ℕ → Bool → ℕ → List Test

@@ -12,7 +12,7 @@ ghost use Rattle.format.specs.Model.{mostInModel};
 ghost use Rattle.atomset.specs.AtomSet.{has, members, setOf};
 ghost use Rattle.pairs.specs.Parts.{part};
 ghost use Rattle.pairs.specs.Truths.{notedAt};
-ghost use Rattle.models.specs.Models.{onlyFalsum, someUpsets, inEquilibrium, NotesThere, ModelNumbered};
+ghost use Rattle.models.specs.Models.{onlyFalsum, someUpsets, inEquilibrium, Prepared, ModelNumbered};
 use atomset::count;
 use atomset::first;
 use atomset::insert;
@@ -21,6 +21,7 @@ use atomset::without_first;
 use counts::limits::MOST_FORMULAS;
 use pairs::fill_here;
 use pairs::fill_there;
+use pairs::holds;
 use tables::records::node;
 use tables::records::wide;
 
@@ -45,6 +46,7 @@ fn only_falsum(formulas: &[u16], side: &[u16]) -> bool
     true
 }
 
+// The larger of two numbers.
 fn larger(a: usize, b: usize) -> usize
     ensures { λ r. ⌜ r ≡ max a b ⌝ }
 {
@@ -92,24 +94,13 @@ fn part_of(model: u64, n: u64) -> u64
     set
 }
 
-// Whether a formula is noted to hold.
-fn holds(notes: &[u8], x: u16) -> bool
-    ensures { λ r. ⌜ r ≡ notedAt (now (notes .entry)) x ⌝ }
-{
-    let at = wide(x);
-    if at >= notes.len() {
-        return false;
-    }
-    notes[at] == 1
-}
-
 // Whether all formulas of a side are noted to hold.
 fn holds_all(notes: &[u8], side: &[u16]) -> bool
     ensures { λ r. ⌜ r ≡ all (notedAt (now (notes .entry))) (now (side .entry)) ⌝ }
 {
     let mut i = 0;
     while i < side.len() {
-        if !holds(notes, side[i]) {
+        if !holds(notes, wide(side[i])) {
             return false;
         }
         i += 1;
@@ -127,8 +118,7 @@ fn undisturbed(
     there: &[u8],
     here: &mut [u8],
 ) -> bool
-    requires { ⌜ (length (members model) ≤ mostInModel) × ((x : ℕ) → x ∈ now sheet → x < end) × (length (now here) ≡ mostFormulas)
-        × NotesThere (now formulas) model end (now there) ⌝ }
+    requires { ⌜ Prepared (now formulas) (now sheet) model end (now there) (now here) ⌝ }
     ensures { λ r. ⌜ r ≡ not (someUpsets (now (formulas .entry)) (now (sheet .entry)) model) ⌝ }
 {
     let last = (1u64 << count(model)) - 1;
@@ -142,7 +132,7 @@ fn undisturbed(
                 upset = true;
                 break 'parts;
             }
-            if !holds(here, sheet[i]) {
+            if !holds(here, wide(sheet[i])) {
                 break;
             }
             i += 1;

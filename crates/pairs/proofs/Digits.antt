@@ -7,22 +7,26 @@ use lib.Bits.{bitAnd, bitOr, bitXor}
 use lib.ListN.{getD, List·getD-map}
 use Rattle.pairs.specs.Truths.{truthOf, digit}
 
+-- `&`
 pub digit-and : (x y : Bool) → bitAnd (digit x) (digit y) ≡ digit (x && y)
 digit-and true true = refl
 digit-and true false = refl
 digit-and false true = refl
 digit-and false false = refl
 
+-- `|`
 pub digit-or : (x y : Bool) → bitOr (digit x) (digit y) ≡ digit (x || y)
 digit-or true true = refl
 digit-or true false = refl
 digit-or false true = refl
 digit-or false false = refl
 
+-- `^ 1`
 pub digit-not : (x : Bool) → bitXor (digit x) 1 ≡ digit (not x)
 digit-not true = refl
 digit-not false = refl
 
+-- an implication
 pub digit-implies : (a x y : Bool) → bitAnd (digit a) (bitOr (bitXor (digit x) 1) (digit y)) ≡ digit (a && (not x || y))
 digit-implies a x y =
     ap (λ (d : ℕ). bitAnd (digit a) (bitOr d (digit y))) (digit-not x) ∙ ap (bitAnd (digit a)) (digit-or (not x) y) ∙ digit-and a (not x || y)

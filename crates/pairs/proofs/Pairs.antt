@@ -9,11 +9,11 @@ use Rattle.equilibrium.specs.Meaning.{_∈_, Holds}
 use Rattle.atomset.specs.AtomSet.{Member}
 use Rattle.pairs.specs.Pairs.{holdsIn}
 
--- A test says whether a statement is so. Tests joined say it of the statements joined.
-
+-- a test says whether a statement is so
 abbrev pub Says : Bool → Type 0 → Type 0
 Says b X = (b ≡ true) ↔ X
 
+-- tests joined say it of the statements joined
 pub says-not : {X : Type 0} (a : Bool) → Says a X → Says (not a) (X → ⊥)
 says-not true s = (λ e. absurd (false≢true e), λ n. absurd (n (s .0 refl)))
 says-not false s = (λ e x. false≢true (s .1 x), λ n. refl)
@@ -34,6 +34,7 @@ says-implies false b s t = (λ e x. absurd (false≢true (s .1 x)), λ f. refl)
 abbrev pub Names : ℕ → List ℕ → Type 0
 Names set X = (p : ℕ) → Member p set ↔ (p ∈ X)
 
+-- computed truth says whether the formula holds
 pub holds-in-iff : (A : Formula) (h t : ℕ) {H T : List ℕ} → Names h H → Names t T → (holdsIn h t A ≡ true) ↔ Holds H T A
 unfolding holdsIn
 holds-in-iff falsum h t n m = (λ e. false≢true e, λ x. absurd x)

@@ -1,6 +1,6 @@
 -- The truths of the formulas of a table: one for each, the earlier ones the same whatever follows, and where the table begins with the
 -- formulas of a good body, the truths of its formulas. Assumes nothing.
-use Prim.Native.Nat.{ℕ, zero, suc, _+_, _≤_, _<_}
+use Prim.Native.Nat.{ℕ, zero, suc, _+_, _<_}
 use native.Mathlib.Numerals.{add-one}
 use native.Mathlib.Omega.{arith}
 use mathlib.Core.Bool.{Bool, true, false, not, _&&_, _||_}
@@ -9,7 +9,7 @@ use mathlib.Core.Logic.{⊎-elim}
 use mathlib.Core.Path.{_≡_, refl, sym, ap, ap₂, subst, _∙_}
 use lib.Dec.{eqb}
 use lib.ListN.{length, getD, set, take, drop, length-append, length-map, length-take, List·getD-append, List·getD-map}
-use lib.Seq.{getD-at, set-at, take-at, drop-cons, length-take-le}
+use lib.Seq.{getD-at, set-at, take-at, drop-cons}
 use Rattle.equilibrium.specs.Formula.{Formula}
 use Rattle.equilibrium.specs.Meaning.{_∈_}
 use Rattle.format.specs.File.{Node, Body, decodedAt, formulaOf, formulas}
@@ -29,6 +29,7 @@ abbrev Rule : Type 0
 Rule = ℕ → List Bool → NodeRecord → Bool
 
 module _ (rule : Rule) (formulas : List ℕ) where
+  -- one for each formula
   pub length-truths : (n : ℕ) → length (truths rule formulas n) ≡ n
   unfolding truths
   length-truths zero = refl
@@ -43,7 +44,8 @@ module _ (rule : Rule) (formulas : List ℕ) where
   pub truth-kept : (n i : ℕ) → i < n → truthOf (truths rule formulas n) i ≡ truthOf (truths rule formulas (suc i)) i
   unfolding truths
   truth-kept zero i h = absurd (omega arith)
-  truth-kept (suc n) i h = ⊎-elim (λ l. before l ∙ truth-kept n i l) (λ (e : i ≡ n). ap (λ (m : ℕ). truthOf (truths rule formulas (suc m)) i) (sym e)) (at-end n i h)
+  truth-kept (suc n) i h =
+      ⊎-elim (λ l. before l ∙ truth-kept n i l) (λ (e : i ≡ n). ap (λ (m : ℕ). truthOf (truths rule formulas (suc m)) i) (sym e)) (at-end n i h)
     where
       before : i < n → truthOf (truths rule formulas (suc n)) i ≡ truthOf (truths rule formulas n) i
       before l = List·getD-append (truths rule formulas n) _ false i (rw length-truths l)
@@ -62,9 +64,11 @@ truths-agree rule other formulas (suc n) h =
 -- ---- truths noted in a table
 
 module _ (rule : Rule) (formulas table : List ℕ) where
+  -- the table with the first n noted
   abbrev notes : ℕ → List ℕ
   notes n = noted (truths rule formulas n) table
 
+  -- n digits
   length-digits : (n : ℕ) → length (map digit (truths rule formulas n)) ≡ n
   length-digits n = length-map (truths rule formulas n) digit ∙ length-truths rule formulas n
 
@@ -104,6 +108,7 @@ noted-read ts table i h =
 
 -- ---- the formulas of a good body
 
+-- twice the same
 and-self : (x : Bool) → (x && x) ≡ x
 and-self true = refl
 and-self false = refl
@@ -114,14 +119,17 @@ module _ (b : Body) (h t : ℕ) where
   Right ts = (j : ℕ) → j < length ts → truthOf ts j ≡ holdsIn h t (decodedAt (b .nodes) j)
 
   module _ (i : ℕ) (before : List Bool) (as-many : length before ≡ i) (right : Right before) where
+    -- the truth of a formula by its number
     abbrev truth : ℕ → Bool
     truth j = holdsIn h t (decodedAt (b .nodes) j)
 
+    -- an operand has it, since it is earlier
     operand : (is : List ℕ) → unknownFormula (beforeNode b i) is ≡ false → (j : ℕ) → j ∈ is → truthOf before j ≡ truth j
     operand is e j m = right j (omega (arith, known-earlier (beforeNode b i) is e j m, length-take i (b .nodes)))
 
     -- a connective of two operands
-    two : (f : Bool → Bool → Bool) (j k : ℕ) → unknownFormula (beforeNode b i) (j ∷ k ∷ []) ≡ false → f (truthOf before j) (truthOf before k) ≡ f (truth j) (truth k)
+    two : (f : Bool → Bool → Bool) (j k : ℕ) → unknownFormula (beforeNode b i) (j ∷ k ∷ []) ≡ false
+        → f (truthOf before j) (truthOf before k) ≡ f (truth j) (truth k)
     two f j k e = ap₂ f (operand (j ∷ k ∷ []) e j (List·Memᴰ·head refl)) (operand (j ∷ k ∷ []) e k (List·Memᴰ·tail (List·Memᴰ·head refl)))
 
     -- by its record and its truth in (t,t), a formula has its truth in (h,t)
@@ -137,16 +145,18 @@ module _ (b : Body) (h t : ℕ) where
         let there = not (holdsIn t t (decodedAt (b .nodes) j)) || holdsIn t t (decodedAt (b .nodes) k) in
         ap₂ (λ (x y : Bool). x && y) (and-self there) (two (λ A B. not A || B) j k e)
 
-  -- a rule that is right of each of n formulas, if the truths before it are, gives the right truths
   module _ (rule : Rule) (table : List ℕ) where
+    -- the rule is right of each of n formulas, if the truths before it are
     abbrev Sound : ℕ → Type 0
     Sound n =
         (i : ℕ) → i < n → i < length (b .nodes) → (before : List Bool) → length before ≡ i → Right before
         → rule i before (recordFrom (nodeAt table i)) ≡ holdsIn h t (decodedAt (b .nodes) i)
 
+    -- the truths by the rule are right
     abbrev AllRight : ℕ → Type 0
     AllRight n = (i : ℕ) → i < n → i < length (b .nodes) → truthOf (truths rule table n) i ≡ holdsIn h t (decodedAt (b .nodes) i)
 
+    -- by induction over the formulas
     truths-right : (n : ℕ) → Sound n → AllRight n
     truths-right zero sound i l k = absurd (omega arith)
     truths-right (suc n) sound i l k = ⊎-elim old own (at-end n i l) (truths-right n (λ j m. sound j (omega arith)))
@@ -205,6 +215,7 @@ module _ {b : Body} {table : List ℕ} (g : Formulas b table) where
       ∙ noted-read (truthsThere table t n) before i (rw length-truths l)
       ∙ there-right t n i l k
 
+  -- and here
   pub notes-here : (h t n : ℕ) (there before : List ℕ) {after : List ℕ} → Notes b n t t there → after ≡ noted (truthsHere table h (notedAt there) n) before
       → Notes b n h t after
   notes-here h t n there before known e i l k =

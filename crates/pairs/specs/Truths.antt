@@ -51,8 +51,7 @@ truthsThere formulas t n = truths (λ i. thereBy t) formulas n
 abbrev pub truthsHere : List ℕ → ℕ → (ℕ → Bool) → ℕ → List Bool
 truthsHere formulas h there n = truths (λ i. hereBy h (there i)) formulas n
 
--- Truths are noted in tables of bytes, one a formula.
-
+-- a truth as a number: truths are noted in tables of bytes, one a formula
 abbrev pub digit : Bool → ℕ
 digit true = 1
 digit false = 0

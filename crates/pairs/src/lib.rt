@@ -24,7 +24,8 @@ const OR: u16 = 4;
 
 const IMP: u16 = 5;
 
-fn least(a: usize, b: usize) -> usize
+// The smaller of two numbers.
+fn smaller(a: usize, b: usize) -> usize
     ensures { λ r. ⌜ r ≡ min a b ⌝ }
 {
     if b < a {
@@ -44,14 +45,21 @@ fn note_of(notes: &[u8], i: u16) -> u8
     0
 }
 
-// The truth that is noted of a formula, as 0 or 1.
+// Whether a formula is noted to hold.
+pub fn holds(notes: &[u8], at: usize) -> bool
+    ensures { λ r. ⌜ r ≡ notedAt (now (notes .entry)) at ⌝ }
+{
+    if at >= notes.len() {
+        return false;
+    }
+    notes[at] == 1
+}
+
+// The same, as 0 or 1.
 fn truth_of(notes: &[u8], at: usize) -> u8
     ensures { λ r. ⌜ r ≡ digit (notedAt (now (notes .entry)) at) ⌝ }
 {
-    if at >= notes.len() {
-        return 0;
-    }
-    if notes[at] == 1 {
+    if holds(notes, at) {
         return 1;
     }
     0
@@ -98,7 +106,7 @@ fn judged(key: NodeRecord, set: u64, negation: u8, allowed: u8, before: &[u8]) -
 pub fn fill_there(formulas: &[u16], count: usize, t: u64, there: &mut [u8])
     ensures { λ _. ⌜ NotedThere (now (formulas .entry)) count t (now (there .entry)) (now (there .exit)) ⌝ }
 {
-    let end = least(count, there.len());
+    let end = smaller(count, there.len());
     let mut i = 0;
     while i < end {
         let key = node(formulas, i);
@@ -112,7 +120,7 @@ pub fn fill_there(formulas: &[u16], count: usize, t: u64, there: &mut [u8])
 pub fn fill_here(formulas: &[u16], count: usize, h: u64, there: &[u8], here: &mut [u8])
     ensures { λ _. ⌜ NotedHere (now (formulas .entry)) count h (now (there .entry)) (now (here .entry)) (now (here .exit)) ⌝ }
 {
-    let end = least(count, here.len());
+    let end = smaller(count, here.len());
     let mut i = 0;
     while i < end {
         let own = truth_of(there, i);

@@ -1,6 +1,6 @@
 -- `models::holds_all` meets its contract. The invariant of its loop: those passed hold. Assumes nothing.
 use Prim.Native.Nat.{_-_}
-use mathlib.Core.Path.{refl, sym, _∙_}
+use mathlib.Core.Path.{refl, sym}
 use borrow.Author.Tests.{not-true, not-false}
 use lib.ListN.{length}
 use Rattle.pairs.specs.Truths.{notedAt}
@@ -18,20 +18,25 @@ abbrev μ-loop : tie.MeasureT-loop
 loop-holds : tie.Need-loop-holds Inv-loop μ-loop
 loop-holds c = refl
 
-mul-holds : tie.Need-mul-holds Inv-loop μ-loop
-mul-holds c = search needs
+mul-wide : tie.Need-mul-wide Inv-loop μ-loop
+mul-wide c = search needs
 
-shared-slice-read-holds : tie.Need-shared-slice-read-holds Inv-loop μ-loop
-shared-slice-read-holds c = search needs
+shared-slice-read-wide : tie.Need-shared-slice-read-wide Inv-loop μ-loop
+shared-slice-read-wide c = search needs
+
+wide-requires : tie.Need-wide-requires Inv-loop μ-loop
+wide-requires c κs = search needs
 
 holds-requires : tie.Need-holds-requires Inv-loop μ-loop
 holds-requires c κs = search needs
 
 returns : tie.Need-returns Inv-loop μ-loop
 returns c =
-    let turn = c .before .before .before .before in
+    let asked = c .before in
+    let turn = asked .before .before .before .before in
     let args = turn .before .before .before .args in
-    sym (fails (notedAt (args .notes .now)) (args .side .now) (turn .loop .i) (turn .loop .inv) (search needs) (sym (c .before .holds .ensures) ∙ not-true _ (c .if1 .taken)))
+    sym (fails (notedAt (args .notes .now)) (args .side .now) (turn .loop .i) (turn .loop .inv) (search needs) (asked .before .wide .ensures)
+    (asked .holds .ensures) (not-true _ (c .if1 .taken)))
 
 add-i : tie.Need-add-i Inv-loop μ-loop
 add-i c = search needs
@@ -41,9 +46,11 @@ loop-less c = search needs
 
 loop-again : tie.Need-loop-again Inv-loop μ-loop
 loop-again c =
-    let turn = c .before .before .before .before in
+    let asked = c .before in
+    let turn = asked .before .before .before .before in
     let args = turn .before .before .before .args in
-    passes (notedAt (args .notes .now)) (args .side .now) (turn .loop .i) (turn .loop .inv) (search needs) (sym (c .before .holds .ensures) ∙ not-false _ (c .if1 .left))
+    passes (notedAt (args .notes .now)) (args .side .now) (turn .loop .i) (turn .loop .inv) (search needs) (asked .before .wide .ensures)
+    (asked .holds .ensures) (not-false _ (c .if1 .left))
 
 returns-2 : tie.Need-returns-2 Inv-loop μ-loop
 returns-2 c =
@@ -58,8 +65,9 @@ holds-all-spec =
     Inv-loop
     μ-loop
     loop-holds
-    mul-holds
-    shared-slice-read-holds
+    mul-wide
+    shared-slice-read-wide
+    wide-requires
     holds-requires
     returns
     add-i

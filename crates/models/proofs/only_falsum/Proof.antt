@@ -2,7 +2,7 @@
 use Prim.Native.Nat.{ℕ, _-_}
 use mathlib.Core.Bool.{Bool}
 use mathlib.Core.List.{List}
-use mathlib.Core.Path.{_≡_, refl, sym, ap, _∙_}
+use mathlib.Core.Path.{refl, sym, ap}
 use borrow.Author.Tests.{eq-eqb, ne-eqb}
 use lib.Dec.{eqb}
 use lib.ListN.{length}
@@ -16,10 +16,6 @@ use Rattle.models.proofs.only_falsum.Tie as tie
 -- formula x is falsum
 abbrev isFalsum : List ℕ → ℕ → Bool
 isFalsum formulas x = eqb (recordFrom (nodeAt formulas x) .word) 0
-
--- by the record that was read
-by-record : (formulas : List ℕ) {n : NodeRecord} {x y : ℕ} → n ≡ recordFrom (nodeAt formulas x) → x ≡ y → isFalsum formulas y ≡ eqb (n .word) 0
-by-record formulas e k = sym (ap (λ (n : NodeRecord). eqb (n .word) 0) e ∙ ap (isFalsum formulas) k)
 
 abbrev Inv-loop : tie.InvT-loop
 Inv-loop formulas side i₀ i = Passed (isFalsum formulas) side i
@@ -47,9 +43,8 @@ returns c =
     let read = c .before .before in
     let turn = read .before .before .before .before in
     let args = turn .before .before .before .args in
-    let formulas = args .formulas .now in
-    sym (fails (isFalsum formulas) (args .side .now) (turn .loop .i) (turn .loop .inv) (search needs)
-    (by-record formulas (read .node .ensures) (read .before .wide .ensures) ∙ ne-eqb (read .node .result .word) 0 (c .if1 .taken)))
+    sym (fails (isFalsum (args .formulas .now)) (args .side .now) (turn .loop .i) (turn .loop .inv) (search needs) (read .before .wide .ensures)
+    (ap (λ (n : NodeRecord). eqb (n .word) 0) (read .node .ensures)) (ne-eqb (read .node .result .word) 0 (c .if1 .taken)))
 
 add-i : tie.Need-add-i Inv-loop μ-loop
 add-i c = search needs
@@ -62,9 +57,8 @@ loop-again c =
     let read = c .before .before in
     let turn = read .before .before .before .before in
     let args = turn .before .before .before .args in
-    let formulas = args .formulas .now in
-    passes (isFalsum formulas) (args .side .now) (turn .loop .i) (turn .loop .inv) (search needs)
-    (by-record formulas (read .node .ensures) (read .before .wide .ensures) ∙ eq-eqb (read .node .result .word) 0 (c .if1 .left))
+    passes (isFalsum (args .formulas .now)) (args .side .now) (turn .loop .i) (turn .loop .inv) (search needs) (read .before .wide .ensures)
+    (ap (λ (n : NodeRecord). eqb (n .word) 0) (read .node .ensures)) (eq-eqb (read .node .result .word) 0 (c .if1 .left))
 
 returns-2 : tie.Need-returns-2 Inv-loop μ-loop
 returns-2 c =

@@ -1,10 +1,8 @@
 -- `models::tested_with` meets its contract: the notes on the model say whether it satisfies the sheet, and by them its parts are judged.
 -- Assumes nothing.
-use mathlib.Core.Bool.{Bool, not, _&&_}
-use mathlib.Core.Path.{sym, ap, ap₂, _∙_}
+use mathlib.Core.Path.{sym, _∙_}
 use borrow.Author.Tests.{not-true, not-false}
-use Rattle.models.specs.Models.{someUpsets, inEquilibrium}
-use Rattle.models.proofs.Judging.{there-noted, all-there}
+use Rattle.models.proofs.Judging.{there-noted, all-there, fails-itself, by-parts}
 use borrow.Author.Needs.{needs}
 use Rattle.models.proofs.tested_with.Statement.{statement}
 use Rattle.models.proofs.tested_with.Tie as tie
@@ -22,7 +20,6 @@ same-length : tie.Need-same-length
 same-length c = search needs
 
 returns : tie.Need-returns
-unfolding inEquilibrium
 returns c =
     let asked = c .before in
     let noted = asked .before .before .before .before in
@@ -30,7 +27,7 @@ returns c =
     let start = bound .before .before .before .before .before in
     let args = start .args in
     let all-hold = all-there (args .sheet .now) (args .model) (bound .past-largest .ensures) (start .pre .1) (noted .fill-there .ensures) in
-    sym (ap (λ (x : Bool). x && not (someUpsets (args .formulas .now) (args .sheet .now) (args .model)))
+    sym (fails-itself (args .formulas .now) (args .sheet .now) (args .model)
     (sym all-hold ∙ sym (asked .holds-all .ensures) ∙ not-true _ (c .if1 .taken)))
 
 undisturbed-requires : tie.Need-undisturbed-requires
@@ -38,7 +35,12 @@ undisturbed-requires c κs =
     let noted = c .before .before .before .before .before .before .before in
     let bound = noted .before .before in
     let start = bound .before .before .before .before .before in
-    (start .pre .0, bound .past-largest .ensures, start .pre .2, there-noted (start .pre .1) (noted .fill-there .ensures))
+    record {
+      few = start .pre .0;
+      below = bound .past-largest .ensures;
+      room = start .pre .2;
+      notes = there-noted (start .pre .1) (noted .fill-there .ensures);
+    }
 
 same-length-2 : tie.Need-same-length-2
 same-length-2 c = search needs
@@ -47,7 +49,6 @@ same-length-3 : tie.Need-same-length-3
 same-length-3 c = search needs
 
 returns-2 : tie.Need-returns-2
-unfolding inEquilibrium
 returns-2 c =
     let judged = c .before .before in
     let asked = judged .before .before .before .before in
@@ -56,9 +57,8 @@ returns-2 c =
     let start = bound .before .before .before .before .before in
     let args = start .args in
     let all-hold = all-there (args .sheet .now) (args .model) (bound .past-largest .ensures) (start .pre .1) (noted .fill-there .ensures) in
-    judged .undisturbed .ensures
-    ∙ sym (ap (λ (x : Bool). x && not (someUpsets (args .formulas .now) (args .sheet .now) (args .model)))
-    (sym all-hold ∙ sym (asked .holds-all .ensures) ∙ not-false _ (judged .before .before .before .if1 .left)))
+    by-parts (args .formulas .now) (args .sheet .now) (args .model)
+    (sym all-hold ∙ sym (asked .holds-all .ensures) ∙ not-false _ (judged .before .before .before .if1 .left)) (judged .undisturbed .ensures)
 
 pub tested-with-spec : {M : Type 1} → statement M
 tested-with-spec =

@@ -20,8 +20,8 @@ Inv-loop formulas count h there here₀ end i₀ here i =
 abbrev μ-loop : tie.MeasureT-loop
 μ-loop formulas count h there here₀ end i₀ here i = end - i
 
-least-requires : tie.Need-least-requires Inv-loop μ-loop
-least-requires c κs = search needs
+smaller-requires : tie.Need-smaller-requires Inv-loop μ-loop
+smaller-requires c κs = search needs
 
 loop-holds : tie.Need-loop-holds Inv-loop μ-loop
 unfolding truths
@@ -76,7 +76,7 @@ returns : tie.Need-returns Inv-loop μ-loop
 returns c =
     let turn = c .before in
     let args = turn .before .before .before .before .before .args in
-    let all : turn .loop .i ≡ min (args .count) (length (args .here .now)) = omega (arith, turn .before .least .ensures) in
+    let all : turn .loop .i ≡ min (args .count) (length (args .here .now)) = omega (arith, turn .before .smaller .ensures) in
     let answer =
     turn .loop .inv .2
     ∙ ap (λ (n : ℕ). noted (truthsHere (args .formulas .now) (args .h) (notedAt (args .there .now)) n) (args .here .now)) all
@@ -89,7 +89,7 @@ fill-here-spec =
     (tie.spec
     Inv-loop
     μ-loop
-    least-requires
+    smaller-requires
     loop-holds
     truth-of-requires
     node-requires

@@ -21,8 +21,8 @@ Inv-loop formulas count t there₀ end i₀ there i = (i ≤ end) × (length the
 abbrev μ-loop : tie.MeasureT-loop
 μ-loop formulas count t there₀ end i₀ there i = end - i
 
-least-requires : tie.Need-least-requires Inv-loop μ-loop
-least-requires c κs = search needs
+smaller-requires : tie.Need-smaller-requires Inv-loop μ-loop
+smaller-requires c κs = search needs
 
 loop-holds : tie.Need-loop-holds Inv-loop μ-loop
 unfolding truths
@@ -84,7 +84,7 @@ returns : tie.Need-returns Inv-loop μ-loop
 returns c =
     let turn = c .before in
     let args = turn .before .before .before .before .args in
-    let all : turn .loop .i ≡ min (args .count) (length (args .there .now)) = omega (arith, turn .before .least .ensures) in
+    let all : turn .loop .i ≡ min (args .count) (length (args .there .now)) = omega (arith, turn .before .smaller .ensures) in
     let answer = turn .loop .inv .2 ∙ ap (λ (n : ℕ). noted (truthsThere (args .formulas .now) (args .t) n) (args .there .now)) all in
     record { answer = answer; judges = λ b g. notes-there g (args .t) _ (args .there .now) answer }
 
@@ -94,7 +94,7 @@ fill-there-spec =
     (tie.spec
     Inv-loop
     μ-loop
-    least-requires
+    smaller-requires
     loop-holds
     node-requires
     slice-reshare-prefix-note-of
