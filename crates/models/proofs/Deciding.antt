@@ -1,6 +1,6 @@
 -- The tests by the tables decide what they are for: where the formulas table begins with those of a good body, the numbers 15, 16 and 17
 -- are those of the claim's formulas. Assumes nothing.
-use Prim.Native.Nat.{ℕ, zero, suc, _-_, _^_, _≤_, _<_}
+use Prim.Native.Nat.{ℕ, zero, suc, _^_, _≤_, _<_}
 use native.Mathlib.Omega.{arith}
 use mathlib.Core.Bool.{Bool, true, false, not, false≢true, Bool·not-not}
 use mathlib.Core.List.{List, [], _∷_, map, List·Memᴰ·head, List·Memᴰ·tail, List·Memᴰ·not-nil, List·Memᴰ·cases-cons}
@@ -109,9 +109,9 @@ module _ {b : Body} {formulas : List ℕ} (g : Formulas b formulas) where
       tested-says : Says (inEquilibrium formulas side model) (Tested (decoded (b .nodes) side) (members model))
       unfolding inEquilibrium
       tested-says =
-          let some = some-says (upsets formulas side model) upsets-says (2 ^ length (members model) - 1) in
+          let some = says-not (someUpsets formulas side model) (some-says (upsets formulas side model) upsets-says _) in
           let both = says-and (all (truthOf (thereIn formulas model)) side) (not (someUpsets formulas side model))
-          (there-says model (member-members model small)) (says-not (someUpsets formulas side model) some) in (
+          (there-says model (member-members model small)) some in (
             λ e. record { model = both .0 e .0; undisturbed = λ n l u. both .0 e .1 (n, omega arith, u) },
             λ t. both .1 (t .model, λ s. t .undisturbed (s .0) (omega (arith, s .1)) (s .2)),
           )
