@@ -7,17 +7,12 @@ ghost use Rattle.known.specs.Known.{occursBy};
 use crate::index::note;
 use atomset::single;
 use atomset::union;
+use tables::records::AND;
+use tables::records::ATOM;
+use tables::records::IMP;
+use tables::records::NOT;
 use tables::records::NodeRecord;
 use tables::records::wide;
-
-// The words of formulas with operands; between AND and IMP they have two.
-const ATOM: u16 = 1;
-
-const NOT: u16 = 2;
-
-const AND: u16 = 3;
-
-const IMP: u16 = 5;
 
 // The atoms of an earlier formula, none where there is no such formula.
 fn note_at(notes: &[u64], i: u16) -> u64

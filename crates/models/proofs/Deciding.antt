@@ -30,9 +30,8 @@ use Rattle.pairs.specs.Parts.{part}
 use Rattle.pairs.specs.Truths.{truthOf}
 use Rattle.pairs.proofs.Pairs.{Says, says-not, says-and, says-or, Names, holds-in-iff}
 use Rattle.pairs.proofs.Truths.{there-right, here-right}
-use Rattle.models.specs.Tested.{Upsets, Tested}
 use Rattle.models.specs.Models.{onlyFalsum, thereIn, hereIn, upsets, someBelow, someUpsets, inEquilibrium, testsIn, Given}
-use Rattle.models.proofs.Tested.{tested-iff}
+use Rattle.models.proofs.Tested.{Upsets, Tested, tested-iff}
 
 -- ---- tests of several
 

@@ -1,5 +1,5 @@
--- The test of a model against its proper parts is exact: a strictly rising T passes it exactly if it is an equilibrium model.
--- Assumes nothing.
+-- The test of a model against every proper part of it, over formulas and lists of atoms. It is exact: a strictly rising T passes it
+-- exactly if it is an equilibrium model. Assumes nothing.
 use Prim.Native.Nat.{ℕ, _+_, _^_, _<_}
 use native.Mathlib.Decide.{decLt}
 use native.Mathlib.Omega.{arith}
@@ -13,7 +13,15 @@ use Rattle.equilibrium.proofs.Satisfaction.{same-agree, all-agree}
 use Rattle.elk.specs.Instance.{Rising}
 use Rattle.pairs.specs.Parts.{part}
 use Rattle.pairs.proofs.Parts.{part-inside, every-part, last-whole, whole-last}
-use Rattle.models.specs.Tested.{Tested}
+
+-- part n of T upsets T: with T it satisfies L
+abbrev pub Upsets : List Formula → List ℕ → ℕ → Type 0
+Upsets L T n = AllHold (part n T) T L
+
+-- T satisfies L, and no proper part of it, counted from 0 to the last but one, upsets it
+pub record Tested (L : List Formula) (T : List ℕ) : Type 0 where
+  pub model : AllHold T T L
+  pub undisturbed : (n : ℕ) → n + 1 < 2 ^ length T → Upsets L T n → ⊥
 
 -- every part is counted, so that nothing smaller satisfies L
 tested-equilibrium : {L : List Formula} {T : List ℕ} → Tested L T → Equilibrium L T

@@ -22,11 +22,9 @@ use counts::limits::MOST_FORMULAS;
 use pairs::fill_here;
 use pairs::fill_there;
 use pairs::holds;
+use tables::records::BOT;
 use tables::records::node;
 use tables::records::wide;
-
-// The word of falsum.
-const FALSUM: u16 = 0;
 
 // The most atoms of a model.
 const MOST_IN_MODEL: usize = 16;
@@ -38,7 +36,7 @@ fn only_falsum(formulas: &[u16], side: &[u16]) -> bool
     let mut i = 0;
     while i < side.len() {
         let key = node(formulas, wide(side[i]));
-        if key.word != FALSUM {
+        if key.word != BOT {
             return false;
         }
         i += 1;

@@ -1,5 +1,5 @@
 -- Truth in a pair by the records of a formulas table: each formula by those before it, in the table's order. A table is any list of
--- numbers: where it has no formula's record, or an operand that is not before, nothing holds.
+-- numbers: where it has no formula's record nothing holds, and an operand that is not before counts as failing.
 use Prim.Native.Nat.{ℕ, zero, suc, _<_, min}
 use mathlib.Core.Bool.{Bool, true, false, cond, not, _&&_, _||_}
 use mathlib.Core.List.{List, [], _∷_, _++_, map}
@@ -34,7 +34,8 @@ judgedBy set neg allowed before n =
 abbrev pub thereBy : ℕ → List Bool → NodeRecord → Bool
 thereBy t before n = judgedBy t (not (truthOf before (n .first))) true before n
 
--- in a pair (h,t), where negations and implications look at (t,t), too: `there` is the formula's truth in it
+-- in a pair (h,t), where a negation is as true as in (t,t), and an implication has to hold there too: `there` is the formula's truth
+-- in (t,t)
 abbrev pub hereBy : ℕ → Bool → List Bool → NodeRecord → Bool
 hereBy h there before n = judgedBy h there there before n
 

@@ -9,20 +9,14 @@ ghost use lib.ListN.{getD};
 ghost use Rattle.atomset.specs.AtomSet.{has};
 ghost use Rattle.pairs.specs.Truths.{judgedBy, digit, notedAt, NotedThere, NotedHere};
 use atomset::contains;
+use tables::records::AND;
+use tables::records::ATOM;
+use tables::records::IMP;
+use tables::records::NOT;
 use tables::records::NodeRecord;
+use tables::records::OR;
 use tables::records::node;
 use tables::records::wide;
-
-// The words of formulas but falsum.
-const ATOM: u16 = 1;
-
-const NOT: u16 = 2;
-
-const AND: u16 = 3;
-
-const OR: u16 = 4;
-
-const IMP: u16 = 5;
 
 // The smaller of two numbers.
 fn smaller(a: usize, b: usize) -> usize
@@ -76,7 +70,8 @@ fn atom_in(set: u64, atom: u16) -> u8
 }
 
 // The truth of the formula of a record, by the truths before it: `negation` is its truth if it is one, and an implication holds
-// only where `allowed`. Both operands are read before the word is asked, which costs less than a branch for each word.
+// only where `allowed`. Both operands of a word with two are read before it is asked which one it is, which costs less than a branch
+// for each.
 fn judged(key: NodeRecord, set: u64, negation: u8, allowed: u8, before: &[u8]) -> u8
     ensures { λ r. ⌜ ((ts : List Bool) (n a : Bool) → now (before .entry) ≡ map digit ts → negation ≡ digit n → allowed ≡ digit a
         → r ≡ digit (judgedBy set n a ts key)) ⌝ }

@@ -16,7 +16,20 @@ use counts::limits::ROW_WIDTH;
 // The number of an absent field.
 pub const ABSENT: u16 = 65535;
 
-// The record of a formula: its word (0 to 5 for bot, atom, not, and, or, imp) and its operands.
+// The words of formulas. From AND to IMP they have two operands.
+pub const BOT: u16 = 0;
+
+pub const ATOM: u16 = 1;
+
+pub const NOT: u16 = 2;
+
+pub const AND: u16 = 3;
+
+pub const OR: u16 = 4;
+
+pub const IMP: u16 = 5;
+
+// The record of a formula: its word and its operands.
 pub struct NodeRecord {
     pub word: u16,
     pub first: u16,
