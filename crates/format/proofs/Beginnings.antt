@@ -27,7 +27,8 @@ use Rattle.format.specs.Text.{Bytes, isName, any, sameList}
 use Rattle.format.specs.File.{Node, Row, Name, Model, Claim, Body, in-atoms, in-formulas, in-rows, modelled, claimed, File, noFile, atomsGiven, decoded}
 use Rattle.format.specs.Line.{Line, atomLine, formulaLine, rowLine, modelLine, claimLine, lineOf}
 use Rattle.format.specs.Tables.{mostAtoms}
-use Rattle.format.specs.Tests.{Test, _when_, first, rank, outOfOrder, lastIs, atomTests, nodeTests, formulaTests, bodyTests, rowTests, modelLineTests, claimTests}
+use Rattle.format.specs.Tests.{Test, _when_, first, rank, outOfOrder, lastIs}
+use Rattle.format.specs.Tests.{atomTests, nodeTests, formulaTests, bodyTests, rowTests, modelLineTests, claimTests}
 use Rattle.format.specs.Model.{ModelFits, claimModelTests}
 use Rattle.format.specs.Judged.{
   Place,

@@ -16,9 +16,11 @@ pub mod Examples
 pub mod Joined
 pub mod WrittenNumbers
 pub mod WrittenLines
+pub mod WrittenBodies
 pub mod WrittenDocuments
 pub mod WrittenExamples
 pub mod PlainNames
 pub mod Numbering
 pub mod InstanceOfSets
+pub mod RisingNumbers
 pub mod Transcribing

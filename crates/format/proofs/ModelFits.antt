@@ -1,17 +1,17 @@
 -- The numbers 15, 16 and 17: none applies exactly if the model on the M line is wanted and is one, or none is wanted and there is
 -- no M line. With entailment this says what acceptance means.
 use Prim.Native.Nat.{ℕ}
-use mathlib.Core.Path.{_≡_, refl, subst}
+use mathlib.Core.Path.{_≡_, subst}
 use mathlib.Core.List.{List}
 use mathlib.Core.Option.{Option, none, some}
 use mathlib.Core.Logic.{_↔_}
 use lib.ListN.{length}
 use borrow.Author.Tests.{ltb-false, le-ltb}
 use Rattle.equilibrium.specs.Formula.{Formula}
-use Rattle.equilibrium.specs.Meaning.{_≈_, Holds, Equilibrium, Entails}
+use Rattle.equilibrium.specs.Meaning.{_≈_, Holds, Entails}
 use Rattle.equilibrium.proofs.Models.{equilibrium?}
 use Rattle.format.specs.Tests.{first}
-use Rattle.format.specs.Model.{Contradiction, contradiction?, mostInModel, modelTests, ModelFits, model-fits, none-wanted}
+use Rattle.format.specs.Model.{contradiction?, mostInModel, modelTests, ModelFits, model-fits, none-wanted}
 use Rattle.format.specs.Model.{Shown, model-shown, contradiction-shown}
 use Rattle.format.proofs.Booleans.{no-iff, yes-iff}
 use Rattle.format.proofs.Tested.{passes}

@@ -20,7 +20,7 @@ use Rattle.format.specs.Transcript.{plainNames, countTo}
 use Rattle.format.proofs.Joined.{each-weaker}
 use Rattle.format.proofs.WrittenNumbers.{decimal-digits, decimal-length, all-true, number-back}
 use Rattle.format.proofs.GoodBodies.{in-place, at-end, Distinct}
-use Rattle.format.proofs.WrittenDocuments.{names-good}
+use Rattle.format.proofs.WrittenBodies.{names-good}
 
 pub plain-length : (n : ℕ) → length (plainNames n) ≡ n
 plain-length zero = refl

@@ -17,7 +17,7 @@ use Rattle.format.specs.Model.{none-wanted}
 use Rattle.format.specs.Good.{GoodBody, atoms, formula, row}
 use Rattle.format.specs.Written.{parted, ended, digits, decimal, listBytes, principalBytes, bytesOf}
 use Rattle.format.specs.Document.{Document, written, bodyOf, GoodDocument}
-use Rattle.format.proofs.WrittenDocuments.{names-good}
+use Rattle.format.proofs.WrittenBodies.{names-good}
 
 abbrev pub whole : Document
 whole =

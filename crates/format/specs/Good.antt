@@ -9,7 +9,8 @@ use lib.ListN.{length, getD}
 use Rattle.equilibrium.specs.Meaning.{_∈_}
 use Rattle.elk.specs.Sequent.{Sequent}
 use Rattle.format.specs.Text.{Bytes, any, isName}
-use Rattle.format.specs.File.{Node, Row, Name, Model, Claim, Body, in-atoms, in-formulas, in-rows, modelled, claimed, File, atomsGiven, addNode, addRow, sequentOf, decoded}
+use Rattle.format.specs.File.{Node, Row, Name, Model, Claim, Body, addNode, addRow, sequentOf, decoded}
+use Rattle.format.specs.File.{in-atoms, in-formulas, in-rows, modelled, claimed, File, atomsGiven}
 use Rattle.format.specs.Line.{claimLine, lineOf}
 use Rattle.format.specs.Tables.{mostAtoms}
 use Rattle.format.specs.Tests.{first, rank, notEarlier, badSide, nodeTests, bodyTests, lastIs}

@@ -1,5 +1,5 @@
--- How a text is judged: a fold over its lines, of which the first that is refused decides (paper 01, "How a text is
--- turned down"), and the claim that the text makes.
+-- How a text is judged: a fold over its lines, of which the first that is refused decides (paper 01, "How a text is turned down";
+-- 02, M-101, for the model beside the claim), and the claim that the text makes.
 use Prim.Native.Nat.{ℕ, _+_}
 use mathlib.Core.Path.{_≡_}
 use mathlib.Core.List.{List, [], _∷_, _++_}
@@ -78,7 +78,9 @@ stepRead f p line (rowLine n r) = settled (first (rowTests f n r)) (p .line) (wi
 stepRead f p line (modelLine atoms) = settled (first (modelLineTests f atoms)) (p .line) (withModel f (record { line = p .line; atoms = atoms }))
 stepRead f p line (claimLine left right) =
     after (settled (first (claimTests f left right)) (p .line) f)
-    (λ g. settled (first (claimModelTests g left right)) (reportedOn (g .model) (p .line)) (withClaim g (record { line = p .line; left = left; right = right })))
+    (λ g.
+    settled (first (claimModelTests g left right)) (reportedOn (g .model) (p .line))
+    (withClaim g (record { line = p .line; left = left; right = right })))
 
 -- a line that is badly written is refused with 3
 abbrev pub orBadLine : Option Line → Place → (Line → Outcome File) → Outcome File

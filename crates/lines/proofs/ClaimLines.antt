@@ -9,12 +9,12 @@ use lib.Dec.{eqb}
 use lib.ListN.{length, getD, take}
 use borrow.Author.Tests.{eqb-true, eqb-false, ltb-false}
 use Rattle.format.specs.Text.{Bytes, fieldsOf, listOf, strictlyRising}
-use Rattle.format.specs.File.{Row, Model, Claim, claimed, File, atomsGiven, decoded}
+use Rattle.format.specs.File.{Row, Model, Claim, claimed, File, atomsGiven}
 use Rattle.format.specs.Line.{lineOf}
 use Rattle.format.specs.Tables.{mostOnSide}
 use Rattle.format.specs.Tests.{Test, _when_, rank, first, unknownFormula, badSide, lastIs, claimTests}
-use Rattle.format.specs.Model.{modelTests, claimModelTests}
-use Rattle.format.specs.Judged.{Place, refused, settled, step, withClaim, reportedOn}
+use Rattle.format.specs.Model.{claimModelTests}
+use Rattle.format.specs.Judged.{settled, withClaim, reportedOn}
 use Rattle.format.specs.Good.{Good}
 use Rattle.format.proofs.Booleans as booleans
 use Rattle.format.proofs.Tested.{passes, follows-once}
@@ -23,19 +23,19 @@ use Rattle.format.proofs.GoodBodies.{good-held}
 use Rattle.format.proofs.Formulas.{known-earlier}
 use Rattle.text.specs.Lists.{listedAs, ListedInto}
 use Rattle.text.specs.declared.lists.Listed.{Listed}
-use Rattle.tables.specs.Holding.{HoldsRows, Formulas, Sided}
+use Rattle.tables.specs.Holding.{HoldsRows, Sided}
 use Rattle.counts.specs.declared.Counts.{Counts}
 use Rattle.early.specs.Early.{pastOf, numbered}
 use Rattle.rows.proofs.EarlyTests.{past-listed}
 use Rattle.rows.proofs.Numbering.{first-append, numbered-some}
-use Rattle.atomset.specs.AtomSet.{members}
 use Rattle.models.specs.Models.{Given, ModelNumbered}
 use Rattle.state.specs.State.{refusedBy, claimedBy, modelReport, modelAtoms, modelLine, Memory, Stored}
 use Rattle.state.specs.Lined.{OfKind}
 use Rattle.lines.specs.ClaimLines.{claimOf, withTables, ClaimSettled, ClaimLined}
 use Rattle.state.specs.declared.State.{State}
 use Rattle.state.specs.declared.Stepped.{Stepped}
-use Rattle.lines.proofs.LineLaws.{claimWritten, line-claim, line-no-claim, not-listed, is-listed, list-laid, number-given, none-given, nodes-held, rows-held}
+use Rattle.lines.proofs.LineLaws.{claimWritten, line-claim, line-no-claim, not-listed, is-listed, list-laid}
+use Rattle.lines.proofs.LineLaws.{number-given, none-given, nodes-held, rows-held}
 use Rattle.lines.proofs.LineLaws.{same-lengths, keeps-refused, keeps-passed, steps-refused, steps-next, line-refused, line-bad}
 use Rattle.drafts.specs.Drafts.{Laid}
 use Rattle.state.proofs.Order.{turn-same}

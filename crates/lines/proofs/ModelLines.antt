@@ -15,14 +15,14 @@ use Rattle.format.specs.Text.{Bytes, any, fieldsOf, listOf, strictlyRising}
 use Rattle.format.specs.File.{Model, modelled, File}
 use Rattle.format.specs.Line.{lineOf}
 use Rattle.format.specs.Tables.{mostOnSide}
-use Rattle.format.specs.Tests.{Test, _when_, first, notEarlier, badSide, modelLineTests}
+use Rattle.format.specs.Tests.{_when_, first, notEarlier, badSide, modelLineTests}
 use Rattle.format.specs.Judged.{settled, withModel}
 use Rattle.format.specs.Good.{Good}
 use Rattle.format.proofs.Booleans as booleans
 use Rattle.format.proofs.Tested.{passes}
 use Rattle.format.proofs.Stepping.{step-model}
 use Rattle.format.proofs.GoodBodies.{good-held}
-use Rattle.atomset.specs.AtomSet.{has, members}
+use Rattle.atomset.specs.AtomSet.{members}
 use Rattle.atomset.proofs.Members.{members-unique}
 use Rattle.text.specs.Lists.{listedAs, ListedInto}
 use Rattle.text.specs.declared.lists.Listed.{Listed}

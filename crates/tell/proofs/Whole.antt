@@ -14,7 +14,7 @@ use Rattle.format.specs.Judged.{Ruling, accepted, turnedDown, numberIn, lineIn,
 use Rattle.format.proofs.GoodBodies.{good-held}
 use Rattle.counts.specs.declared.Counts.{Counts}
 use Rattle.tables.proofs.Encoded.{begins-padded}
-use Rattle.run.specs.Lent.{lengths, clear}
+use Rattle.run.specs.Lent.{clear}
 use Rattle.answers.specs.Answers.{filled}
 use Rattle.answers.specs.declared.Answer.{Answer}
 use Rattle.judge.specs.Contract.{Filed, JudgesFile}

@@ -20,7 +20,7 @@ use Rattle.format.proofs.Tested.{passed-row}
 use Rattle.format.proofs.GoodBodies.{good-held}
 use Rattle.format.proofs.Accepted.{accepted-file, accepted-good}
 use Rattle.format.proofs.Joined.{each-append}
-use Rattle.format.proofs.WrittenDocuments.{row-writable}
+use Rattle.format.proofs.WrittenBodies.{row-writable}
 use Rattle.words.specs.Told.{Named, named, namesOf, namedAt, toldRow, toldFile, toldIn}
 use Rattle.words.specs.Words.{wordsIn}
 use Rattle.words.proofs.Formulas.{nameByte, Spelled}
