@@ -43,7 +43,7 @@ struct elk_answer {
     uint32_t line;
 };
 
-/* The answer to a text. It takes about 130 KiB of stack, most of it for tables of its own. */
+/* The answer to a text. It takes about 133 KiB of stack, most of it for tables of its own. */
 struct elk_answer elk_check(const uint8_t *text, size_t text_length);
 
 /* The same, with the accepted file in the lent tables: what it holds and then zeros to the end of each, or zeros alone if it is
