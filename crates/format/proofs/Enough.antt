@@ -23,7 +23,7 @@ pub follow-later : (s t : Stage) → rank s < rank t → mayFollow s t ≡ true
 follow-later s t l = rw (lt-ltb (rank s) (rank t) l)
 
 -- a stage that goes on, or a later one
-pub follow-on : (s t : Stage) → rank s ≤ rank t → goesOn t ≡ true → mayFollow s t ≡ true
+follow-on : (s t : Stage) → rank s ≤ rank t → goesOn t ≡ true → mayFollow s t ≡ true
 follow-on s t h on = cases (decLt (rank s) (rank t))
   where
     cases : Dec (rank s < rank t) → mayFollow s t ≡ true

@@ -12,20 +12,7 @@ use borrow.Author.Tests.{eqb-true, ltb-true, leb-false, ltb-false}
 use Rattle.format.specs.Text.{any}
 use Rattle.format.specs.File.{Row, Body, Stage, in-atoms, in-formulas, in-rows, modelled, claimed}
 use Rattle.format.specs.Tables.{leftPool, rightPool, mostRows, mostEntries}
-use Rattle.format.specs.Tests.{
-  Test,
-  first,
-  rank,
-  goesOn,
-  mayFollow,
-  outOfOrder,
-  notEarlier,
-  unknownFormula,
-  listed,
-  badSide,
-  passed,
-  bodyTests,
-}
+use Rattle.format.specs.Tests.{Test, first, rank, goesOn, mayFollow, outOfOrder, notEarlier, unknownFormula, listed, badSide, passed, bodyTests}
 use Rattle.format.proofs.Booleans.{or-false, or-false₄, and-true, not-false}
 
 -- whether the test under a number applies; no list has two of one number
@@ -50,7 +37,7 @@ goes-on in-rows e = omega arith
 goes-on modelled e = absurd (false≢true e)
 goes-on claimed e = absurd (false≢true e)
 
-pub follows : (s t : Stage) → mayFollow s t ≡ true → (rank s < rank t) ⊎ ((rank s ≡ rank t) × (rank t < 3))
+follows : (s t : Stage) → mayFollow s t ≡ true → (rank s < rank t) ⊎ ((rank s ≡ rank t) × (rank t < 3))
 follows s t e = cases (ltb (rank s) (rank t)) refl e
   where
     cases : (b : Bool) → ltb (rank s) (rank t) ≡ b → b || (eqb (rank s) (rank t) && goesOn t) ≡ true → (rank s < rank t) ⊎ ((rank s ≡ rank t) × (rank t < 3))

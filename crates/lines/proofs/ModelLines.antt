@@ -2,16 +2,15 @@
 use Prim.Native.Nat.{ℕ, _≤_, _<_}
 use native.Mathlib.Omega.{arith}
 use mathlib.Core.Path.{_≡_, refl, sym, ap, ap₂, subst, _∙_}
-use mathlib.Core.Bool.{Bool, true, false, not, _&&_, _||_, true≢false}
-use mathlib.Core.List.{List, [], _∷_, List·Memᴰ·head, List·Memᴰ·tail, List·Memᴰ·not-nil, List·Memᴰ·cases-cons}
-use mathlib.Core.Logic.{⊎-elim}
+use mathlib.Core.Bool.{Bool, true, false, not, _&&_}
+use mathlib.Core.List.{List, [], _∷_, Memᴰ·cast}
 use mathlib.Core.Option.{Option, none, some}
 use lib.Dec.{eqb, ltb}
 use lib.ListN.{length, getD, take}
 use borrow.Author.Tests.{eqb-true, eq-eqb, lt-ltb, ltb-true, ltb-false, leb-false}
 use Rattle.equilibrium.specs.Meaning.{_∈_}
 use Rattle.elk.specs.Instance.{Rising}
-use Rattle.format.specs.Text.{Bytes, any, fieldsOf, listOf, strictlyRising}
+use Rattle.format.specs.Text.{Bytes, fieldsOf, listOf, strictlyRising}
 use Rattle.format.specs.File.{Model, modelled, File}
 use Rattle.format.specs.Line.{lineOf}
 use Rattle.format.specs.Tables.{mostOnSide}
@@ -29,6 +28,7 @@ use Rattle.text.specs.declared.lists.Listed.{Listed}
 use Rattle.counts.specs.declared.Counts.{Counts}
 use Rattle.early.specs.Early.{pastOf, numbered}
 use Rattle.rows.proofs.EarlyTests.{past-listed}
+use Rattle.sides.proofs.Sets.{any-iff}
 use Rattle.state.specs.State.{refusedBy, modelledBy, Memory, Stored}
 use Rattle.state.specs.Lined.{OfKind}
 use Rattle.lines.specs.ModelLines.{modelOf, WordRead, ModelSettled, ModelLined}
@@ -51,32 +51,17 @@ rises [] e = tt
 rises (x ∷ []) e = tt
 rises (x ∷ y ∷ ys) e = let both = booleans.and-true (ltb x y) _ e in (ltb-true x y (both .0), rises (y ∷ ys) (both .1))
 
--- an entry that is found is one of the list's
-entered-in : (p : ℕ) (xs : List ℕ) → any (entered p) xs ≡ true → p ∈ xs
-entered-in p [] e = absurd (true≢false (sym e))
-entered-in p (x ∷ xs) e = cases (entered p x) refl e (entered-in p xs)
-  where
-    cases : (b : Bool) → entered p x ≡ b → (b || any (entered p) xs) ≡ true → (any (entered p) xs ≡ true → p ∈ xs) → p ∈ x ∷ xs
-    cases true k h rest = List·Memᴰ·head (eqb-true p x (booleans.and-true (eqb p x) (ltb x 64) k .0))
-    cases false k h rest = List·Memᴰ·tail (rest h)
-
--- and one for which there is room is found
-in-entered : (p : ℕ) (xs : List ℕ) → p < 64 → p ∈ xs → any (entered p) xs ≡ true
-in-entered p [] l m = absurd (List·Memᴰ·not-nil m)
-in-entered p (x ∷ xs) l m = ⊎-elim here (λ k. further (entered p x) (in-entered p xs l k)) (List·Memᴰ·cases-cons m)
-  where
-    here : p ≡ x → any (entered p) (x ∷ xs) ≡ true
-    here e = rw (eq-eqb p x e, lt-ltb x 64 (omega arith))
-
-    further : (b : Bool) → any (entered p) xs ≡ true → (b || any (entered p) xs) ≡ true
-    further true h = refl
-    further false h = h
-
 -- of a strictly rising list of atoms below 64 it has exactly these members, in the list's order
 word-members : (xs : List ℕ) (w : ℕ) → WordRead xs w → strictlyRising xs ≡ true → ((x : ℕ) → x ∈ xs → x < 64) → members w ≡ xs
 word-members xs w read e small =
     members-unique w xs (read .small) (rises xs e)
-    (λ p. (λ h. entered-in p xs (sym (read .its p) ∙ h), λ m. read .its p ∙ in-entered p xs (small p m) m))
+    (λ p. (λ h. listed p (any-iff (entered p) xs .0 (sym (read .its p) ∙ h)), λ m. read .its p ∙ any-iff (entered p) xs .1 (p, m, found p (small p m))))
+  where
+    listed : (p : ℕ) → (x : ℕ) × (x ∈ xs) × (entered p x ≡ true) → p ∈ xs
+    listed p s = Memᴰ·cast (eqb-true p (s .0) (booleans.and-true (eqb p (s .0)) _ (s .2) .0)) (s .1)
+
+    found : (p : ℕ) → p < 64 → entered p p ≡ true
+    found p l = rw (eq-eqb p p refl, lt-ltb p 64 l)
 
 -- ---- the tests of a model's atoms
 
