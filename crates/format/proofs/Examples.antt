@@ -4,7 +4,7 @@ use mathlib.Core.List.{List, [], _∷_, _++_, map}
 use native.Mathlib.Decide.{ℕ-discrete}
 use Rattle.equilibrium.proofs.Models.{equilibrium?}
 use Rattle.elk.proofs.Decision.{instance?}
-use Rattle.format.specs.Text.{Bytes, bytes, partsAt, linesOf, fieldsOf, sameList, numberOf, listOf, principalOf, isName, strictlyRising}
+use Rattle.format.specs.Text.{Bytes, bytes, partsAt, linesOf, fieldsOf, sameList, numberOf, listOf, itemOf, itemsOf, upFrom, sideOf, principalOf, isName, strictlyRising}
 use Rattle.format.specs.Line.{ruleOf, nodeOf, atomFields, formulaFields, rowFields, modelFields, claimFields, lineOf}
 use Rattle.format.specs.File.{formulas}
 use Rattle.format.specs.Tables.{Lent, tooShort}
@@ -124,6 +124,6 @@ examples =
 
 pub examples-hold : map (λ e. judged full (e .text)) examples ≡ map (λ e. e .answer) examples
 unfolding judged beginning run step stepRead lineOf atomFields formulaFields rowFields modelFields claimFields ruleOf nodeOf
-    linesOf fieldsOf partsAt sameList numberOf listOf principalOf isName strictlyRising formulas tooShort wrongPremises wrongStep instance?
+    linesOf fieldsOf partsAt sameList numberOf listOf itemOf itemsOf upFrom sideOf principalOf isName strictlyRising formulas tooShort wrongPremises wrongStep instance?
     contradiction? equilibrium? ℕ-discrete
 examples-hold = refl

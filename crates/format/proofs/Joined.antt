@@ -24,7 +24,7 @@ abbrev pub Without : ℕ → Bytes → Type 0
 Without separator bs = Each (λ b. eqb b separator ≡ false) bs
 
 module _ (s : ℕ) where
-  parts-one : (p : Bytes) → Without s p → partsAt s p ≡ p ∷ []
+  pub parts-one : (p : Bytes) → Without s p → partsAt s p ≡ p ∷ []
   unfolding partsAt
   parts-one [] w = refl
   parts-one (b ∷ bs) w = rw (w .0, parts-one bs (w .1))

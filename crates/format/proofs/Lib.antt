@@ -14,6 +14,7 @@ pub mod Beginnings
 pub mod Accepted
 pub mod Examples
 pub mod Joined
+pub mod Sides
 pub mod WrittenNumbers
 pub mod WrittenLines
 pub mod WrittenBodies

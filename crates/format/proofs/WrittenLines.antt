@@ -19,7 +19,7 @@ use Rattle.format.specs.Written.{Each, parted, decimal, Small, listBytes
 use Rattle.format.specs.Written.{nodeNumbers, Writable}
 use Rattle.format.proofs.Booleans.{and-true}
 use Rattle.format.proofs.Joined.{Without, each-append, each-weaker, parted-without, fields-parted, lines-ended}
-use Rattle.format.proofs.WrittenNumbers.{decimal-digits, number-back, list-back, principal-back}
+use Rattle.format.proofs.WrittenNumbers.{decimal-digits, number-back, list-back, side-back, principal-back}
 
 -- ---- no field holds a tab or an LF: all its bytes are visible
 
@@ -157,15 +157,15 @@ unfolding rowFields
 row-fields-back n r w =
     let principal = principal-back (r .principal) (w .1) in
     let premises = list-back (r .premises) (w .2) in
-    rw (number-back n (w .0), rule-word (r .rule) .0, principal, premises, list-back (r .left) (w .3), list-back (r .right) (w .4))
+    rw (number-back n (w .0), rule-word (r .rule) .0, principal, premises, side-back (r .left) (w .3), side-back (r .right) (w .4))
 
 kind-back : (l : Line) → Writable l → ofKind (fieldBytes l) ≡ some l
 unfolding atomFields modelFields claimFields sameList
 kind-back (atomLine n name) w = rw (number-back n (w .0))
 kind-back (formulaLine n node) w = formula-fields-back n (w .0) node (w .1)
 kind-back (rowLine n r) w = row-fields-back n r w
-kind-back (modelLine atoms) w = rw (list-back atoms w)
-kind-back (claimLine left right) w = rw (list-back left (w .0), list-back right (w .1))
+kind-back (modelLine atoms) w = rw (side-back atoms w)
+kind-back (claimLine left right) w = rw (side-back left (w .0), side-back right (w .1))
 
 -- the fields of a line are those that were written
 pub fields-back : (l : Line) → Writable l → fieldsOf (bytesOf l) ≡ fieldBytes l

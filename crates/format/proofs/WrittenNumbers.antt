@@ -1,7 +1,7 @@
 -- A number, a list and a principal are read back as they were written.
 use Prim.Native.Nat.{ℕ, zero, suc, _+_, _*_, _/_, _%_, _^_, _≤_, _<_, min}
 use mathlib.Core.Path.{_≡_, refl, sym, ap, _∙_}
-use mathlib.Core.Bool.{Bool, true, false, cond, true≢false}
+use mathlib.Core.Bool.{Bool, true, false, cond}
 use mathlib.Core.List.{List, [], _∷_, _++_, map, append-nil, append-assoc}
 use mathlib.Core.Option.{Option, none, some}
 use native.Mathlib.Nat.{pow-suc}
@@ -9,10 +9,11 @@ use native.Mathlib.Omega.{arith}
 use lib.Dec.{ltb}
 use lib.ListN.{length, length-append}
 use borrow.Author.Tests.{le-leb, ne-eqb, ltb-true, ltb-false}
-use Rattle.format.specs.Text.{Bytes, comma, all, isDigit, valueFrom, leadingZero, sameList, numberOf, listOf, principalOf, each}
+use Rattle.format.specs.Text.{Bytes, comma, hyphen, all, isDigit, valueFrom, leadingZero, sameList, numberOf, listOf, sideOf, principalOf, each}
 use Rattle.format.specs.Tests.{listed}
 use Rattle.format.specs.Written.{Each, parted, digit, digits, decimal, Small, listBytes, principalBytes, dash}
-use Rattle.format.proofs.Joined.{Without, each-append, each-weaker, parts-parted}
+use Rattle.format.proofs.Joined.{Without, each-append, parts-parted}
+use Rattle.format.proofs.Sides.{digits-without, side-kept}
 
 -- ---- the digits of a number
 
@@ -100,13 +101,12 @@ number-back n h =
 
 -- ---- lists and principals
 
--- a digit is no other byte
-digits-without : (s : ℕ) → isDigit s ≡ false → (bs : Bytes) → Each IsDigit bs → Without s bs
-digits-without s no-digit = each-weaker IsDigit _ (λ b h. ne-eqb b s (λ k. true≢false (sym h ∙ ap isDigit k ∙ no-digit)))
+decimal-without : (s : ℕ) → isDigit s ≡ false → (n : ℕ) → Without s (decimal n)
+decimal-without s no-digit n = digits-without s no-digit (decimal n) (all-true isDigit (decimal n) (decimal-digits n))
 
 decimals-without : (s : ℕ) → isDigit s ≡ false → (ns : List ℕ) → Each (Without s) (map decimal ns)
 decimals-without s no-digit [] = tt
-decimals-without s no-digit (n ∷ ns) = (digits-without s no-digit (decimal n) (decimal-digits n), decimals-without s no-digit ns)
+decimals-without s no-digit (n ∷ ns) = (decimal-without s no-digit n, decimals-without s no-digit ns)
 
 each-back : (ns : List ℕ) → Each Small ns → each numberOf (map decimal ns) ≡ some ns
 each-back [] h = refl
@@ -115,9 +115,9 @@ each-back (n ∷ ns) h = rw (number-back n (h .0), each-back ns (h .1))
 -- what begins with a number is no dash
 no-dash : (n : ℕ) (rest : Bytes) → sameList (decimal n ++ rest) dash ≡ false
 unfolding sameList
-no-dash n rest = first-differs (decimal n) (decimal-length n .least) (digits-without 45 refl (decimal n) (decimal-digits n))
+no-dash n rest = first-differs (decimal n) (decimal-length n .least) (decimal-without hyphen refl n)
   where
-    first-differs : (bs : Bytes) → 1 ≤ length bs → Without 45 bs → sameList (bs ++ rest) dash ≡ false
+    first-differs : (bs : Bytes) → 1 ≤ length bs → Without hyphen bs → sameList (bs ++ rest) dash ≡ false
     first-differs [] l w = absurd (omega arith)
     first-differs (b ∷ bs) l w = rw (w .0)
 
@@ -134,6 +134,10 @@ list-back (n ∷ ns) h =
     let more = parted-more n ns in
     let not-empty = ap (λ (bs : Bytes). sameList bs dash) (more .1) ∙ no-dash n (more .0) in
     rw (not-empty, parts-parted comma (decimal n) (map decimal ns) (decimals-without comma refl (n ∷ ns))) (each-back (n ∷ ns) h)
+
+-- and so as a side
+pub side-back : (ns : List ℕ) → Each Small ns → sideOf (listBytes ns) ≡ some ns
+side-back ns h = side-kept (listBytes ns) ns (list-back ns h)
 
 -- a principal is read back
 pub principal-back : (o : Option ℕ) → Each Small (listed o) → principalOf (principalBytes o) ≡ some o

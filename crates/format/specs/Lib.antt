@@ -10,3 +10,4 @@ pub mod Passing
 pub mod Written
 pub mod Document
 pub mod Transcript
+pub mod Same

@@ -1,9 +1,10 @@
--- The parts of a text: lines, fields, numbers, lists and names (paper 01, "The text"). A text is its list of bytes.
-use Prim.Native.Nat.{ℕ, _+_, _*_, _-_}
+-- The parts of a text: lines, fields, numbers, lists and names (paper 01, "The text"); runs in a side (paper 02, M-102). A text is
+-- its list of bytes.
+use Prim.Native.Nat.{ℕ, zero, suc, _+_, _*_, _-_}
 use Prim.Native.String.{String, [] as end, _∷_ as then}
 use Prim.Native.Char.{code}
 use mathlib.Core.Bool.{Bool, true, false, cond, not, _&&_, _||_}
-use mathlib.Core.List.{List, [], _∷_}
+use mathlib.Core.List.{List, [], _∷_, _++_}
 use mathlib.Core.Option.{Option, none, some}
 use lib.Dec.{eqb, ltb, leb}
 use lib.ListN.{length}
@@ -25,9 +26,13 @@ tab = 9
 abbrev pub lineFeed : ℕ
 lineFeed = 10
 
--- between two numbers of a list
+-- between two items of a list
 abbrev pub comma : ℕ
 comma = 44
+
+-- between the first number of a run and its last
+abbrev pub hyphen : ℕ
+hyphen = 45
 
 -- a byte put in front of the first part
 abbrev pub onto : ℕ → List Bytes → List Bytes
@@ -127,11 +132,56 @@ numberOf field = onlyIf (leb 1 (length field) && leb (length field) 5 && all isD
 unfoldable pub listOf : Bytes → Option (List ℕ)
 listOf field = cond (is "-" field) (some []) (each numberOf (partsAt comma field))
 
--- a list of formula numbers, or of the atoms of a model
-abbrev pub sideOf : Bytes → Option (List ℕ)
-sideOf field = listOf field
+-- an item of a side: a number, or a run such as `3-7`, which is all numbers from its first to its last
+pub data Item : Type 0 where
+  one : ℕ → Item
+  run : ℕ → ℕ → Item
 
--- a list of row numbers
+-- the first number of a run is smaller than its last
+abbrev pub isOrdered : Item → Bool
+isOrdered (Item.one n) = true
+isOrdered (Item.run first last) = ltb first last
+
+-- what is there and passes a test
+abbrev pub passing : {A : Type 0} → (A → Bool) → Option A → Option A
+passing test none = none
+passing test (some a) = onlyIf (test a) (some a)
+
+-- a number, or two parted by `-`
+abbrev pub itemFrom : List Bytes → Option Item
+itemFrom [] = none
+itemFrom (n ∷ []) = (λ n. Item.one n) <$> numberOf n
+itemFrom (first ∷ last ∷ []) = (λ m n. Item.run m n) <$> numberOf first <*> numberOf last
+itemFrom (first ∷ last ∷ p ∷ ps) = none
+
+-- the item that these bytes write
+unfoldable pub itemOf : Bytes → Option Item
+itemOf part = passing isOrdered (itemFrom (partsAt hyphen part))
+
+-- items parted by commas, or `-` if there is none
+unfoldable pub itemsOf : Bytes → Option (List Item)
+itemsOf field = cond (is "-" field) (some []) (each itemOf (partsAt comma field))
+
+-- so many numbers, from the first on
+unfoldable pub upFrom : ℕ → ℕ → List ℕ
+upFrom first zero = []
+upFrom first (suc k) = first ∷ upFrom (first + 1) k
+
+-- the numbers that an item means
+abbrev pub meantBy : Item → List ℕ
+meantBy (Item.one n) = n ∷ []
+meantBy (Item.run first last) = upFrom first (last + 1 - first)
+
+-- the numbers that items mean, all written out
+abbrev pub writtenOut : List Item → List ℕ
+writtenOut [] = []
+writtenOut (item ∷ items) = meantBy item ++ writtenOut items
+
+-- a list of formula numbers, or of the atoms of a model: the list that its items mean
+unfoldable pub sideOf : Bytes → Option (List ℕ)
+sideOf field = writtenOut <$> itemsOf field
+
+-- a list of row numbers, without runs
 abbrev pub premiseListOf : Bytes → Option (List ℕ)
 premiseListOf field = listOf field
 
