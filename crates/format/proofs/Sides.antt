@@ -61,7 +61,7 @@ number-parts part n e = parts-one hyphen part (digits-without hyphen refl part (
 
 -- ---- a plain list as a side
 
-number-item : (part : Bytes) (n : ℕ) → numberOf part ≡ some n → itemOf part ≡ some (Item.one n)
+pub number-item : (part : Bytes) (n : ℕ) → numberOf part ≡ some n → itemOf part ≡ some (Item.one n)
 unfolding itemOf
 number-item part n e =
     ap (λ (parts : List Bytes). passing isOrdered (itemFrom parts)) (number-parts part n e)

@@ -136,6 +136,24 @@ module _ (separator : ℕ) (bs : Bytes) (start : ℕ) where
           let parts = last-part h end in
           parts ∙ ap₂ (λ part rest. part ∷ rest) (sym (take-all _ (drop start bs) all)) (sym (ap (drop 1) parts))
 
+-- from a later place that the first separator does not stand before
+pub next-same : (separator : ℕ) (bs : Bytes) (start later : ℕ) → start ≤ later → later ≤ nextAt separator bs start → later ≤ length bs
+    → nextAt separator bs later ≡ nextAt separator bs start
+next-same separator bs start later f l h =
+    omega (arith, not-before (ltb (nextAt separator bs later) (length bs)) refl, not-after (ltb (nextAt separator bs start) (length bs)) refl)
+  where
+    not-before : (b : Bool) → ltb (nextAt separator bs later) (length bs) ≡ b → nextAt separator bs start ≤ nextAt separator bs later
+    not-before true e =
+        let inside = ltb-true _ _ e in
+        next-least separator bs start (nextAt separator bs later) (omega (arith, next-bounds separator bs later h)) inside (next-found separator bs later h inside)
+    not-before false e = omega (arith, ltb-false (nextAt separator bs later) (length bs) e, next-bounds separator bs start (omega arith))
+
+    not-after : (b : Bool) → ltb (nextAt separator bs start) (length bs) ≡ b → nextAt separator bs later ≤ nextAt separator bs start
+    not-after true e =
+        let inside = ltb-true _ _ e in
+        next-least separator bs later (nextAt separator bs start) l inside (next-found separator bs start (omega arith) inside)
+    not-after false e = omega (arith, ltb-false (nextAt separator bs start) (length bs) e, next-bounds separator bs later h)
+
 -- ---- the ends, by the fields' lengths
 
 abbrev startFrom : ℕ → List ℕ → ℕ → ℕ

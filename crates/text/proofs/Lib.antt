@@ -1,3 +1,5 @@
 mod NumberLaws
 mod ListLaws
+mod ItemLaws
+mod Listing
 mod NameLaws

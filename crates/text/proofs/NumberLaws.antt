@@ -13,7 +13,7 @@ use lib.ListN.{length, getD, take, drop, drop-of-length-le}
 use lib.Dec.{eqb, leb, ltb, lit<}
 use lib.Seq.{drop-cons, getD-drop}
 use borrow.Author.Tests.{eq-eqb, ne-eqb, le-leb, lt-leb, eqb-true, leb-true, ltb-true, ltb-false}
-use Rattle.format.specs.Text.{Bytes, numberOf, isDigit, all, leadingZero, valueFrom, is, principalOf, _<$>_, comma}
+use Rattle.format.specs.Text.{Bytes, numberOf, isDigit, all, leadingZero, valueFrom, is, principalOf, _<$>_}
 use Rattle.format.proofs.Booleans.{and-true as both}
 use Rattle.parts.specs.Refusals.{badIfNone}
 use Rattle.parts.specs.Parts.{before}
@@ -134,15 +134,15 @@ digits-part (b ∷ bs) h = by-test (isDigit b) h (digits-part bs)
     by-test true h rest = rest (omega arith)
     by-test false h rest = refl
 
--- a comma is no digit
-pub digits-to-comma : (bs : Bytes) → digitsAhead (take (before comma bs) bs) ≡ digitsAhead bs
+-- up to a separator that is no digit
+pub digits-to : (s : ℕ) → isDigit s ≡ false → (bs : Bytes) → digitsAhead (take (before s bs) bs) ≡ digitsAhead bs
 unfolding digitsAhead before
-digits-to-comma [] = refl
-digits-to-comma (b ∷ bs) = by-test (eqb b comma) refl (digits-to-comma bs)
+digits-to s no-digit [] = refl
+digits-to s no-digit (b ∷ bs) = by-test (eqb b s) refl (digits-to s no-digit bs)
   where
-    by-test : (t : Bool) → eqb b comma ≡ t → digitsAhead (take (before comma bs) bs) ≡ digitsAhead bs
-        → digitsAhead (take (cond t 0 (suc (before comma bs))) (b ∷ bs)) ≡ digitsAhead (b ∷ bs)
-    by-test true e rest = ap (λ n. cond (isDigit n) (n ∷ digitsAhead bs) []) (sym (eqb-true b comma e))
+    by-test : (t : Bool) → eqb b s ≡ t → digitsAhead (take (before s bs) bs) ≡ digitsAhead bs
+        → digitsAhead (take (cond t 0 (suc (before s bs))) (b ∷ bs)) ≡ digitsAhead (b ∷ bs)
+    by-test true e rest = sym (ap (λ t. cond t (b ∷ digitsAhead bs) []) (ap isDigit (eqb-true b s e) ∙ no-digit))
     by-test false e rest = ap (λ ds. cond (isDigit b) (b ∷ ds) []) rest
 
 -- ---- a part of a field with the digits from `start` on: it is a number where it has nothing else

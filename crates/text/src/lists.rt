@@ -1,16 +1,19 @@
-// Lists of numbers.
+// Lists of numbers, with runs or without.
 ghost use mathlib.Core.Path.{_≡_};
-ghost use mathlib.Core.List.{List, [], _∷_, _++_};
+ghost use mathlib.Core.Bool.{true, false};
+ghost use mathlib.Core.List.{List, _++_};
 ghost use mathlib.Core.Option.{some};
-ghost use Prim.Native.Nat.{ℕ, _^_, _≤_, _<_, min};
-ghost use lib.ListN.{length, set};
-ghost use Rattle.text.specs.Lists.{listedAs, ListedInto, entryAt, HeldList};
-use crate::numbers::Entry;
-use crate::numbers::number_at;
+ghost use Prim.Native.Nat.{ℕ, _+_, _-_, _≤_, min, max};
+ghost use Rattle.text.specs.Lists.{mostCounted, spanned, laidAt, listedAs, ListedInto, HeldList};
+use crate::items::Span;
+use crate::items::read_item;
 use parts::is_dash;
 
-// What is known of a list: whether it is well written; and if it is, how many entries it has, the largest (0 if there is none),
-// and whether they rise strictly. Of a badly written list all is 0 and false.
+// A count stops here. No slice is as long.
+const MOST_COUNTED: usize = 9223372036854775808;
+
+// What is known of a list: whether it is well written; and if it is, how many entries it has, written out, the largest (0 if there
+// is none), and whether they rise strictly. Of a badly written list all is 0 and false.
 pub struct Listed {
     pub well: bool,
     pub count: usize,
@@ -18,52 +21,55 @@ pub struct Listed {
     pub rising: bool,
 }
 
-// The entry of a list that starts at `at`: its number, up to a comma or the end of the field.
-fn read_entry(field: &[u8], at: usize) -> Entry
-    requires { ⌜ at ≤ length (now field) ⌝ }
-    ensures { λ r. ⌜ r ≡ entryAt (now (field .entry)) at ⌝ }
+// A count with the numbers from `first` to `last`.
+fn counted(count: usize, first: u32, last: u32) -> usize
+    requires { ⌜ (count ≤ mostCounted) × (first ≤ last) ⌝ }
+    ensures { λ r. ⌜ r ≡ min (count + (last - first + 1)) mostCounted ⌝ }
 {
-    let number = number_at(field, at);
-    let Entry::Value(n, end) = number else {
-        return Entry::Bad;
-    };
-    if end == field.len() {
-        return Entry::Value(n, end);
+    let sum = count + (last - first) as usize + 1;
+    if sum < MOST_COUNTED {
+        return sum;
     }
-    if field[end] == b',' {
-        return Entry::Value(n, end);
-    }
-    Entry::Bad
+    MOST_COUNTED
 }
 
-// What is known of a list after one more entry. Where a list rises, its largest entry is its last.
-fn entered(listed: Listed, n: u32) -> Listed
-    requires { ⌜ listed .count < 2 ^ 63 ⌝ }
-    ensures { λ r. ⌜ ((xs : List ℕ) → listed ≡ listedAs (some xs) → r ≡ listedAs (some (xs ++ n ∷ []))) ⌝ }
+// What is known of a list after the numbers from `first` to `last`. Where a list rises, its largest entry is its last.
+fn entered(listed: Listed, first: u32, last: u32) -> Listed
+    requires { ⌜ (listed .count ≤ mostCounted) × (first ≤ last) ⌝ }
+    ensures { λ r. ⌜ ((xs : List ℕ) → listed ≡ listedAs (some xs) → r ≡ listedAs (some (xs ++ spanned first last))) ⌝ }
 {
-    let count = listed.count + 1;
+    let count = counted(listed.count, first, last);
     if listed.count == 0 {
         return Listed {
             well: true,
             count,
-            largest: n,
+            largest: last,
             rising: true,
         };
     }
-    if listed.largest < n {
+    if listed.largest < first {
         return Listed {
             well: true,
             count,
-            largest: n,
+            largest: last,
             rising: listed.rising,
         };
     }
     Listed {
         well: true,
         count,
-        largest: listed.largest,
+        largest: larger(listed.largest, last),
         rising: false,
     }
+}
+
+fn larger(m: u32, n: u32) -> u32
+    ensures { λ r. ⌜ r ≡ max m n ⌝ }
+{
+    if m < n {
+        return n;
+    }
+    m
 }
 
 fn capped(n: u32) -> u16
@@ -75,28 +81,36 @@ fn capped(n: u32) -> u16
     65535
 }
 
-// An entry is stored as far as the table is long.
-fn store(out: &mut [u16], at: usize, n: u32)
-    ensures { λ r. ⌜ now (out .exit) ≡ set (now (out .entry)) at (min n 65535) ⌝ }
+// The numbers from `first` to `last` are stored from a place on, as far as the table is long.
+fn store(out: &mut [u16], at: usize, first: u32, last: u32)
+    requires { ⌜ first ≤ last ⌝ }
+    ensures { λ r. ⌜ now (out .exit) ≡ laidAt (now (out .entry)) at (spanned first last) ⌝ }
 {
-    if at < out.len() {
-        out[at] = capped(n);
+    let mut place = at;
+    let mut n = first;
+    while place < out.len() {
+        out[place] = capped(n);
+        if n == last {
+            return;
+        }
+        n += 1;
+        place += 1;
     }
 }
 
-// One more entry, with its number stored.
-fn enter(listed: Listed, n: u32, out: &mut [u16]) -> Listed
-    requires { ⌜ listed .count < 2 ^ 63 ⌝ }
-    ensures { λ r. ⌜ ((xs was : List ℕ) → HeldList xs was (now (out .entry)) listed → HeldList (xs ++ n ∷ []) was (now (out .exit)) r) ⌝ }
+// One more item, with its numbers stored.
+fn enter(listed: Listed, first: u32, last: u32, out: &mut [u16]) -> Listed
+    requires { ⌜ (listed .count ≤ mostCounted) × (first ≤ last) ⌝ }
+    ensures { λ r. ⌜ ((xs was : List ℕ) → HeldList xs was (now (out .entry)) listed → HeldList (xs ++ spanned first last) was (now (out .exit)) r) ⌝ }
 {
-    store(out, listed.count, n);
-    entered(listed, n)
+    store(out, listed.count, first, last);
+    entered(listed, first, last)
 }
 
-// The list that a field writes, read to its end. Its entries are stored into `out`, as far as that is long; of a badly written
-// list those before the first bad one.
-pub fn read_list(field: &[u8], out: &mut [u16]) -> Listed
-    ensures { λ r. ⌜ ListedInto (now (field .entry)) (now (out .entry)) (now (out .exit)) r ⌝ }
+// The list that a field writes, read to its end. The entries that it means are stored into `out`, as far as that is long; of a
+// badly written list those before the first bad item.
+fn read_items(field: &[u8], runs: bool, out: &mut [u16]) -> Listed
+    ensures { λ r. ⌜ ListedInto runs (now (field .entry)) (now (out .entry)) (now (out .exit)) r ⌝ }
 {
     let mut listed = Listed {
         well: true,
@@ -109,8 +123,8 @@ pub fn read_list(field: &[u8], out: &mut [u16]) -> Listed
     }
     let mut at: usize = 0;
     loop {
-        let entry = read_entry(field, at);
-        let Entry::Value(n, end) = entry else {
+        let item = read_item(field, at, runs);
+        let Span::Of(first, last, end) = item else {
             return Listed {
                 well: false,
                 count: 0,
@@ -118,10 +132,24 @@ pub fn read_list(field: &[u8], out: &mut [u16]) -> Listed
                 rising: false,
             };
         };
-        listed = enter(listed, n, out);
+        listed = enter(listed, first, last, out);
         if end == field.len() {
             return listed;
         }
         at = end + 1;
     }
+}
+
+// A list of numbers alone.
+pub fn read_list(field: &[u8], out: &mut [u16]) -> Listed
+    ensures { λ r. ⌜ ListedInto false (now (field .entry)) (now (out .entry)) (now (out .exit)) r ⌝ }
+{
+    read_items(field, false, out)
+}
+
+// A side, or the atoms of a model: a list that may hold runs.
+pub fn read_side(field: &[u8], out: &mut [u16]) -> Listed
+    ensures { λ r. ⌜ ListedInto true (now (field .entry)) (now (out .entry)) (now (out .exit)) r ⌝ }
+{
+    read_items(field, true, out)
 }

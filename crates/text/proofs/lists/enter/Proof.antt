@@ -1,6 +1,7 @@
 -- `text::lists::enter` meets its contract. Assumes nothing.
+use native.Mathlib.Omega.{arith}
 use borrow.Author.Needs.{needs}
-use Rattle.text.proofs.ListLaws.{one-more}
+use Rattle.text.proofs.ListLaws.{run-more}
 use Rattle.text.proofs.lists.enter.Statement.{statement}
 use Rattle.text.proofs.lists.enter.Tie as tie
 
@@ -14,7 +15,9 @@ same-length : tie.Need-same-length
 same-length c = search needs
 
 returns : tie.Need-returns
-returns c xs was h = one-more xs _ was _ _ _ _ h (c .before .before .before .store .ensures) (c .entered .ensures xs)
+returns c xs was h =
+    let stored = c .before .before .before in
+    run-more _ _ xs was _ _ _ _ (omega (arith, stored .before .before .before .good)) h (stored .store .ensures) (c .entered .ensures xs)
 
 pub enter-spec : {M : Type 1} → statement M
 enter-spec = tie.close (tie.spec store-requires entered-requires same-length returns)

@@ -1,9 +1,9 @@
--- `text::lists::read_entry` meets its contract. Assumes nothing.
+-- `text::items::read_entry` meets its contract. Assumes nothing.
 use mathlib.Core.Path.{sym, _∙_}
 use borrow.Author.Needs.{needs}
-use Rattle.text.proofs.ListLaws.{entry-bad, entry-last, entry-inside, entry-parted, entry-stray}
-use Rattle.text.proofs.lists.read_entry.Statement.{statement}
-use Rattle.text.proofs.lists.read_entry.Tie as tie
+use Rattle.text.proofs.ItemLaws.{entry-bad, entry-last, entry-inside, entry-parted, entry-stray}
+use Rattle.text.proofs.items.read_entry.Statement.{statement}
+use Rattle.text.proofs.items.read_entry.Tie as tie
 
 number-at-requires : tie.Need-number-at-requires
 number-at-requires c κs = search needs
