@@ -1,6 +1,7 @@
 -- The six fields of a row, read together. Assumes nothing.
 use Prim.Native.Nat.{ℕ}
 use mathlib.Core.Path.{_≡_, subst}
+use mathlib.Core.Bool.{true, false}
 use mathlib.Core.List.{List}
 use Rattle.format.specs.Text.{Bytes}
 use Rattle.format.specs.Line.{ruleOf}
@@ -16,13 +17,13 @@ pub row-into : {field : ℕ → Bytes} {one two three four five six : Bytes} {pr
     {number : Number} {rule : ℕ} {principal : Optional} {a b d : Listed}
     → one ≡ field 1 → two ≡ field 2 → three ≡ field 3 → four ≡ field 4 → five ≡ field 5 → six ≡ field 6
     → NumberRead one number → rule ≡ ruleCode (ruleOf two) → PrincipalRead three principal
-    → ListedInto four premises premises′ a → ListedInto five left left′ b → ListedInto six right right′ d
+    → ListedInto false four premises premises′ a → ListedInto true five left left′ b → ListedInto true six right right′ d
     → RowInto field premises left right premises′ left′ right′
     (record { number = number; rule = rule; principal = principal; premises = a; left = b; right = d })
 row-into {premises = premises} {left = left} {right = right} {premises′} {left′} {right′} {a = a} {b = b} {d = d} e1 e2 e3 e4 e5 e6 n r p x y z =
     record {
       answer = cc (n .answer, p .answer, x .answer, y .answer, z .answer);
-      premises-listed = subst (λ (field : Bytes). ListedInto field premises premises′ a) e4 x;
-      left-listed = subst (λ (field : Bytes). ListedInto field left left′ b) e5 y;
-      right-listed = subst (λ (field : Bytes). ListedInto field right right′ d) e6 z;
+      premises-listed = subst (λ (field : Bytes). ListedInto false field premises premises′ a) e4 x;
+      left-listed = subst (λ (field : Bytes). ListedInto true field left left′ b) e5 y;
+      right-listed = subst (λ (field : Bytes). ListedInto true field right right′ d) e6 z;
     }

@@ -9,7 +9,7 @@ use lib.Dec.{eqb}
 use lib.ListN.{length, getD, take}
 use Rattle.equilibrium.specs.Meaning.{_∈_}
 use Rattle.elk.specs.Rules.{Rule, codeOf}
-use Rattle.format.specs.Text.{Bytes, numberOf, principalOf, listOf}
+use Rattle.format.specs.Text.{Bytes, numberOf, principalOf, premiseListOf, sideOf}
 use Rattle.format.specs.File.{Row}
 use Rattle.format.specs.Line.{ruleOf}
 use Rattle.format.specs.Tables.{absent, mostOnSide}
@@ -42,11 +42,11 @@ rowRead n q = readAs (some n) (some (q .rule)) (some (q .principal)) (some (q .p
 pub record RowInto (field : ℕ → Bytes) (premises left right premises′ left′ right′ : List ℕ) (r : RowRead) : Type 0 where
   pub answer :
       r
-      ≡ readAs (numberOf (field 1)) (ruleOf (field 2)) (principalOf (field 3)) (listOf (field 4))
-      (listOf (field 5)) (listOf (field 6))
-  pub premises-listed : ListedInto (field 4) premises premises′ (r .premises)
-  pub left-listed : ListedInto (field 5) left left′ (r .left)
-  pub right-listed : ListedInto (field 6) right right′ (r .right)
+      ≡ readAs (numberOf (field 1)) (ruleOf (field 2)) (principalOf (field 3)) (premiseListOf (field 4))
+      (sideOf (field 5)) (sideOf (field 6))
+  pub premises-listed : ListedInto false (field 4) premises premises′ (r .premises)
+  pub left-listed : ListedInto true (field 5) left left′ (r .left)
+  pub right-listed : ListedInto true (field 6) right right′ (r .right)
 
 abbrev pub isNumber : Number → Bool
 isNumber (Number.Value n) = true
@@ -87,7 +87,7 @@ Narrow xs = (x : ℕ) → x ∈ xs → x ≤ absent
 -- a list as it was read: what is known of it, and a table that begins with it, where it is short enough for a side
 pub record Laid (xs : List ℕ) (listed : Listed) (table : List ℕ) : Type 0 where
   pub answer : listed ≡ listedAs (some xs)
-  pub front : length xs ≤ mostOnSide → Narrow xs → take (length xs) table ≡ xs
+  pub front : length xs ≤ mostOnSide → Narrow xs → take (listed .count) table ≡ xs
 
 -- the draft and these tables are the row as it was read
 pub record Drafted (r : Row) (d : Draft) (left right : List ℕ) : Type 0 where

@@ -13,6 +13,7 @@ use tables::records::ABSENT;
 use tables::records::narrow;
 use text::lists::Listed;
 use text::lists::read_list;
+use text::lists::read_side;
 use text::numbers::Number;
 use text::numbers::Optional;
 use text::numbers::read_number;
@@ -44,8 +45,8 @@ pub fn read_row(
     let rule = rule_word(field(line, fields, 2));
     let principal = read_principal(field(line, fields, 3));
     let above = read_list(field(line, fields, 4), premises);
-    let antecedent = read_list(field(line, fields, 5), left);
-    let succedent = read_list(field(line, fields, 6), right);
+    let antecedent = read_side(field(line, fields, 5), left);
+    let succedent = read_side(field(line, fields, 6), right);
     RowRead {
         number,
         rule,

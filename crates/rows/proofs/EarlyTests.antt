@@ -1,31 +1,31 @@
 -- The tests by what is known of a row as it was read, and by the counts, are those of the row over the body; and what it says of
 -- the row that none of them applies.
-use Prim.Native.Nat.{ℕ, _≤_, _<_, max}
+use Prim.Native.Nat.{ℕ, _+_, _≤_, _<_, min, max}
 use native.Mathlib.Omega.{arith}
 use mathlib.Core.Path.{_≡_, refl, sym, ap, ap₂, subst, _∙_}
 use mathlib.Core.Bool.{Bool, true, false, not, _&&_, _||_, or-false}
 use mathlib.Core.List.{List, [], _∷_}
 use mathlib.Core.Option.{Option, none, some}
-use lib.Dec.{leb}
+use lib.Dec.{eqb, ltb, leb, lit<}
 use lib.ListN.{length, take}
-use borrow.Author.Tests.{le-leb, lt-leb, leb-true, leb-false, ltb-false, ne-eqb}
+use borrow.Author.Tests.{le-leb, lt-leb, leb-true, leb-false, lt-ltb, le-ltb, ltb-true, ltb-false, ne-eqb}
 use Rattle.equilibrium.specs.Meaning.{_∈_}
 use Rattle.format.specs.Text.{any, strictlyRising}
 use Rattle.format.specs.File.{Row, Body}
-use Rattle.format.specs.Tables.{absent, mostOnSide}
-use Rattle.format.specs.Tests.{_when_, first, notEarlier, unknownFormula, listed, badSide}
+use Rattle.format.specs.Tables.{absent, mostOnSide, mostRows, mostEntries}
+use Rattle.format.specs.Tests.{Test, _when_, first, notEarlier, unknownFormula, listed, badSide}
 use Rattle.format.proofs.Booleans as booleans
 use Rattle.format.proofs.Tested.{passes}
 use Rattle.format.proofs.GoodBodies.{Held, good-held}
 use Rattle.format.proofs.Formulas.{known-earlier}
 use Rattle.text.specs.Numbers.{principalAs}
-use Rattle.text.specs.Lists.{largest, listedAs}
+use Rattle.text.specs.Lists.{mostCounted, largest, listedAs}
 use Rattle.text.specs.declared.numbers.Optional.{Optional}
 use Rattle.text.specs.declared.lists.Listed.{Listed}
 use Rattle.counts.specs.Counts.{countsOf, fullFor}
 use Rattle.tables.specs.Holding.{Sided}
 use Rattle.counts.specs.declared.Counts.{Counts}
-use Rattle.early.specs.Early.{pastOf, aheadOf, earlyOf}
+use Rattle.early.specs.Early.{pastOf, aheadOf, badOf, referencesOf, earlyOf}
 use Rattle.rows.specs.Judgement.{Ground, earlyTests}
 use Rattle.rows.specs.Judging.{Judging}
 use Rattle.drafts.specs.declared.Draft.{Draft}
@@ -47,7 +47,26 @@ any-largest h x (y ∷ ys) = ap (λ (t : Bool). leb h x || t) (any-largest h y y
 -- some number of a list is not earlier exactly if its largest is not
 pub past-listed : (xs : List ℕ) (h : ℕ) → pastOf (listedAs (some xs)) h ≡ any (notEarlier h) xs
 past-listed [] h = refl
-past-listed (x ∷ xs) h = ap (λ (t : Bool). not t && leb h (largest (x ∷ xs))) (ne-eqb (length (x ∷ xs)) 0 (λ e. omega arith)) ∙ sym (any-largest h x xs)
+past-listed (x ∷ xs) h =
+    let filled : eqb (min (length (x ∷ xs)) mostCounted) 0 ≡ false = ne-eqb _ 0 (λ e. omega arith) in
+    ap (λ (t : Bool). not t && leb h (largest (x ∷ xs))) filled ∙ sym (any-largest h x xs)
+
+-- where a count stops, it passes every limit that its list passes
+ltb-counted : (most held n : ℕ) → most < mostCounted → ltb most (held + min n mostCounted) ≡ ltb most (held + n)
+ltb-counted most held n h = by-test (ltb most (held + n)) refl
+  where
+    by-test : (t : Bool) → ltb most (held + n) ≡ t → ltb most (held + min n mostCounted) ≡ t
+    by-test true e = lt-ltb most _ (omega (arith, ltb-true most (held + n) e))
+    by-test false e = le-ltb most _ (omega (arith, ltb-false most (held + n) e))
+
+-- a side is bad exactly if what is known of it says so
+pub bad-listed : (xs : List ℕ) → badOf (listedAs (some xs)) ≡ badSide xs
+bad-listed xs = ap (λ (t : Bool). not (strictlyRising xs) || t) (ltb-counted mostOnSide 0 (length xs) (lit< tt))
+
+full-counted : (c : Counts) (l r : ℕ) → fullFor c (min l mostCounted) (min r mostCounted) ≡ fullFor c l r
+unfolding fullFor
+full-counted c l r =
+    ap₂ (λ (s t : Bool). leb mostRows (c .rows) || s || t) (ltb-counted mostEntries (c .left) l (lit< tt)) (ltb-counted mostEntries (c .right) r (lit< tt))
 
 ahead-listed : (o : Option ℕ) (h : ℕ) → aheadOf (principalAs (some o)) h ≡ any (notEarlier h) (listed o)
 ahead-listed none h = refl
@@ -66,11 +85,18 @@ draftOf r rule one two =
       right = listedAs (some (r .right));
     }
 
+-- 5, 7 and 9
+abbrev tests : Bool → Bool → Bool → List Test
+tests full unknown bad = (5 when full) ∷ (7 when unknown) ∷ (9 when bad) ∷ []
+
 own-tests : (b : Body) (r : Row) (rule one two : ℕ) → earlyOf (draftOf r rule one two) (countsOf b) ≡ earlyTests b r
 unfolding fullFor
 own-tests b r rule one two =
-    ap (λ (t : Bool). (5 when fullFor (countsOf b) (length (r .left)) (length (r .right)))
-    ∷ (7 when t) ∷ (9 when badSide (r .left) || badSide (r .right)) ∷ []) (
+    ap (λ (t : Bool). tests t (referencesOf (draftOf r rule one two) (countsOf b)) (badOf (listedAs (some (r .left))) || badOf (listedAs (some (r .right)))))
+    (full-counted (countsOf b) (length (r .left)) (length (r .right)))
+    ∙ ap₂ (λ (s t : Bool). tests (fullFor (countsOf b) (length (r .left)) (length (r .right))) (referencesOf (draftOf r rule one two) (countsOf b)) (s || t))
+    (bad-listed (r .left)) (bad-listed (r .right))
+    ∙ ap (λ (t : Bool). tests (fullFor (countsOf b) (length (r .left)) (length (r .right))) t (badSide (r .left) || badSide (r .right))) (
     ap₂ (λ (s t : Bool). s || t || pastOf (listedAs (some (r .left))) (length (b .nodes)) || pastOf (listedAs (some (r .right))) (length (b .nodes)))
     (ahead-listed (r .principal) (length (b .nodes))) (past-listed (r .premises) (length (b .rows)))
     ∙ ap₂ (λ (s t : Bool). unknownFormula b (listed (r .principal)) || any (notEarlier (length (b .rows))) (r .premises) || s || t)
@@ -147,11 +173,7 @@ ready {b} {r} {d} {c} {left} {right} g drafted e =
     narrow-side side k = narrow-below (length (b .nodes)) side (omega (arith, held .few-nodes)) (known-earlier b side k)
 
     left-is : take (d .left .count) left ≡ r .left
-    left-is =
-        ap (λ (l : Listed). take (l .count) left) (drafted .left-laid .answer)
-        ∙ drafted .left-laid .front (short-side (r .left) (sides .0)) (narrow-side (r .left) (known .2))
+    left-is = drafted .left-laid .front (short-side (r .left) (sides .0)) (narrow-side (r .left) (known .2))
 
     right-is : take (d .right .count) right ≡ r .right
-    right-is =
-        ap (λ (l : Listed). take (l .count) right) (drafted .right-laid .answer)
-        ∙ drafted .right-laid .front (short-side (r .right) (sides .1)) (narrow-side (r .right) (known .3))
+    right-is = drafted .right-laid .front (short-side (r .right) (sides .1)) (narrow-side (r .right) (known .3))

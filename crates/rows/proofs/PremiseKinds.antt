@@ -233,11 +233,11 @@ module _ {b : Body} {q : Row} {formulas notes rows leftPool rightPool left right
       named = sym principal-had ∙ same ∙ principal-asked
 
       pub ten-count : (d .premises .count ≡ count → ⊥) → true ≡ wrongPremises b q
-      ten-count n = sym (wrong-count b q (λ e. n (sym (j .count) ∙ e ∙ sym count-asked)))
+      ten-count n = sym (wrong-count b q (λ e. n (omega (arith, j .count, e, count-asked, two-at-most (q .rule)))))
 
       module _ (counts : d .premises .count ≡ count) where
         as-many : length (q .premises) ≡ length asksFor
-        as-many = j .count ∙ counts ∙ count-asked
+        as-many = omega (arith, j .count, counts, count-asked, two-at-most (q .rule))
 
         pub none-wrong : count ≡ 0 → false ≡ wrongPremises b q
         none-wrong z = sym (right-none b q as-many named (sym count-asked ∙ z))

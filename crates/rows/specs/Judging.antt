@@ -1,5 +1,5 @@
 -- A row that passed the numbers before its rule, with the sides that it is judged by.
-use Prim.Native.Nat.{ℕ, _<_}
+use Prim.Native.Nat.{ℕ, _<_, min}
 use mathlib.Core.Path.{_≡_}
 use mathlib.Core.Bool.{false}
 use mathlib.Core.List.{List}
@@ -11,6 +11,7 @@ use Rattle.format.specs.File.{Row, Body}
 use Rattle.format.specs.Tables.{absent}
 use Rattle.format.specs.Tests.{unknownFormula, listed}
 use Rattle.text.specs.Numbers.{principalAs}
+use Rattle.text.specs.Lists.{mostCounted}
 use Rattle.text.specs.declared.numbers.Optional.{Optional}
 use Rattle.tables.specs.Holding.{HoldsRows, Formulas, Sided}
 use Rattle.known.specs.Known.{AtomNotes}
@@ -23,7 +24,7 @@ pub record Judging (b : Body) (q : Row) (formulas notes rows leftPool rightPool 
   pub rows-held : HoldsRows (b .rows) rows leftPool rightPool
   pub rule : codeOf (q .rule) ≡ d .rule
   pub principal : d .principal ≡ principalAs (some (q .principal))
-  pub count : length (q .premises) ≡ d .premises .count
+  pub count : min (length (q .premises)) mostCounted ≡ d .premises .count
   pub first-premise : getD (q .premises) 0 absent ≡ d .first
   pub second-premise : getD (q .premises) 1 absent ≡ d .second
   pub left-side : q .left ≡ left

@@ -6,6 +6,7 @@ ghost use lib.ListN.{getD};
 ghost use Rattle.format.specs.Text.{fieldsOf};
 use keywords::Kind;
 use libc::STDOUT_FILENO;
+use text::lists::Listed;
 use text::numbers::Number;
 use text::numbers::Optional;
 
@@ -58,11 +59,8 @@ fn show_principal(field: &[u8]) {
     put(b"\n");
 }
 
-// The table has room for two entries, and a list is read to its end.
-fn show_list(field: &[u8]) {
-    put_head(b"list", field);
-    let mut out = [0u16; 2];
-    let listed = text::lists::read_list(field, &mut out);
+// What is known of a list, and what a table of two entries holds of it.
+fn put_listed(listed: Listed, out: [u16; 2]) {
     if listed.well {
         put_decimal(listed.count as u64);
         put(b" entries, largest ");
@@ -77,6 +75,21 @@ fn show_list(field: &[u8]) {
         put(b"bad");
     }
     put(b"\n");
+}
+
+// The table has room for two entries, and a list is read to its end.
+fn show_list(field: &[u8]) {
+    put_head(b"list", field);
+    let mut out = [0u16; 2];
+    let listed = text::lists::read_list(field, &mut out);
+    put_listed(listed, out);
+}
+
+fn show_side(field: &[u8]) {
+    put_head(b"side", field);
+    let mut out = [0u16; 2];
+    let listed = text::lists::read_side(field, &mut out);
+    put_listed(listed, out);
 }
 
 fn show_name(field: &[u8]) {
@@ -138,6 +151,11 @@ fn main() {
     show_list(b"3,70000,70001");
     show_list(b"3,3");
     show_list(b"3,,4");
+    show_list(b"3-7");
+    show_side(b"3-7");
+    show_side(b"3,5-70000,70001");
+    show_side(b"0-99999,0-99999");
+    show_side(b"7-7");
     show_name(b"a_0");
     show_name(b"_a");
     show_words(b"bot");

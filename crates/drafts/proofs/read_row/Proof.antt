@@ -31,14 +31,14 @@ read-list-requires c κs = search needs
 field-requires-5 : tie.Need-field-requires-5
 field-requires-5 c κs = search needs
 
-read-list-requires-2 : tie.Need-read-list-requires-2
-read-list-requires-2 c κs = search needs
+read-side-requires : tie.Need-read-side-requires
+read-side-requires c κs = search needs
 
 field-requires-6 : tie.Need-field-requires-6
 field-requires-6 c κs = search needs
 
-read-list-requires-3 : tie.Need-read-list-requires-3
-read-list-requires-3 c κs = search needs
+read-side-requires-2 : tie.Need-read-side-requires-2
+read-side-requires-2 c κs = search needs
 
 same-length : tie.Need-same-length
 same-length c = search needs
@@ -65,7 +65,7 @@ returns c =
     (second .before .before .field5 .ensures .part)
     (third .before .before .field6 .ensures .part)
     (number .read-number .ensures) (rule .rule-word .ensures) (principal .read-principal .ensures)
-    (first .read-list .ensures) (second .read-list2 .ensures) (third .read-list3 .ensures)
+    (first .read-list .ensures) (second .read-side .ensures) (third .read-side2 .ensures)
 
 pub read-row-spec : {M : Type 1} → statement M
 read-row-spec =
@@ -80,9 +80,9 @@ read-row-spec =
     field-requires-4
     read-list-requires
     field-requires-5
-    read-list-requires-2
+    read-side-requires
     field-requires-6
-    read-list-requires-3
+    read-side-requires-2
     same-length
     same-length-2
     same-length-3
