@@ -6,7 +6,7 @@ use mathlib.Core.Path.{_≡_, refl, sym, ap, ap₂, subst, _∙_}
 use mathlib.Core.Bool.{Bool, true, false, not, _&&_, _||_, or-false}
 use mathlib.Core.List.{List, [], _∷_}
 use mathlib.Core.Option.{Option, none, some}
-use lib.Dec.{eqb, ltb, leb, lit<}
+use lib.Dec.{ltb, leb}
 use lib.ListN.{length, take}
 use borrow.Author.Tests.{le-leb, lt-leb, leb-true, leb-false, lt-ltb, le-ltb, ltb-true, ltb-false, ne-eqb}
 use Rattle.equilibrium.specs.Meaning.{_∈_}
@@ -48,25 +48,31 @@ any-largest h x (y ∷ ys) = ap (λ (t : Bool). leb h x || t) (any-largest h y y
 pub past-listed : (xs : List ℕ) (h : ℕ) → pastOf (listedAs (some xs)) h ≡ any (notEarlier h) xs
 past-listed [] h = refl
 past-listed (x ∷ xs) h =
-    let filled : eqb (min (length (x ∷ xs)) mostCounted) 0 ≡ false = ne-eqb _ 0 (λ e. omega arith) in
+    let filled = ne-eqb (min (length (x ∷ xs)) mostCounted) 0 (λ (e : min (length (x ∷ xs)) mostCounted ≡ 0). omega arith) in
     ap (λ (t : Bool). not t && leb h (largest (x ∷ xs))) filled ∙ sym (any-largest h x xs)
 
 -- where a count stops, it passes every limit that its list passes
-ltb-counted : (most held n : ℕ) → most < mostCounted → ltb most (held + min n mostCounted) ≡ ltb most (held + n)
-ltb-counted most held n h = by-test (ltb most (held + n)) refl
+ltb-alike : (most m n : ℕ) → (most < n → most < m) → (n ≤ most → m ≤ most) → ltb most m ≡ ltb most n
+ltb-alike most m n above below = by-test (ltb most n) refl
   where
-    by-test : (t : Bool) → ltb most (held + n) ≡ t → ltb most (held + min n mostCounted) ≡ t
-    by-test true e = lt-ltb most _ (omega (arith, ltb-true most (held + n) e))
-    by-test false e = le-ltb most _ (omega (arith, ltb-false most (held + n) e))
+    by-test : (t : Bool) → ltb most n ≡ t → ltb most m ≡ t
+    by-test true e = lt-ltb most m (above (ltb-true most n e))
+    by-test false e = le-ltb most m (below (ltb-false most n e))
 
 -- a side is bad exactly if what is known of it says so
 pub bad-listed : (xs : List ℕ) → badOf (listedAs (some xs)) ≡ badSide xs
-bad-listed xs = ap (λ (t : Bool). not (strictlyRising xs) || t) (ltb-counted mostOnSide 0 (length xs) (lit< tt))
+bad-listed xs =
+    ap (λ (t : Bool). not (strictlyRising xs) || t)
+    (ltb-alike mostOnSide (min (length xs) mostCounted) (length xs) (λ (h : mostOnSide < length xs). omega arith) (λ (h : length xs ≤ mostOnSide). omega arith))
 
 full-counted : (c : Counts) (l r : ℕ) → fullFor c (min l mostCounted) (min r mostCounted) ≡ fullFor c l r
 unfolding fullFor
-full-counted c l r =
-    ap₂ (λ (s t : Bool). leb mostRows (c .rows) || s || t) (ltb-counted mostEntries (c .left) l (lit< tt)) (ltb-counted mostEntries (c .right) r (lit< tt))
+full-counted c l r = ap₂ (λ (s t : Bool). leb mostRows (c .rows) || s || t) (over (c .left) l) (over (c .right) r)
+  where
+    over : (held n : ℕ) → ltb mostEntries (held + min n mostCounted) ≡ ltb mostEntries (held + n)
+    over held n =
+        ltb-alike mostEntries (held + min n mostCounted) (held + n)
+        (λ (h : mostEntries < held + n). omega arith) (λ (h : held + n ≤ mostEntries). omega arith)
 
 ahead-listed : (o : Option ℕ) (h : ℕ) → aheadOf (principalAs (some o)) h ≡ any (notEarlier h) (listed o)
 ahead-listed none h = refl

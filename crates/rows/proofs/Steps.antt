@@ -238,7 +238,7 @@ module _ {b : Body} {q : Row} {formulas notes rows leftPool rightPool left right
         let many : length (q .premises) ≡ length (t .premises) = premise-count j right-premises he ∙ length-map (t .premises) (λ (a : Added). t .kind) in
         let few : length (t .premises) < 3 =
         omega (arith, two-at-most (q .rule), ap (λ (e : Entry). length (premiseKinds e)) he, length-map (t .premises) (λ (a : Added). t .kind)) in
-        let counted : count ≡ length (q .premises) = hc ∙ sym (j .count) in
+        let counted : count ≡ length (q .premises) = omega (arith, hc, j .count) in
         let handed : Handed = record { rule = d .rule; principal = p; count = count; row = left ⊣ right; one = l₁ ⊣ r₁; two = l₂ ⊣ r₂ } in
         let iff = instance-seen j right-premises he _ (l₁ ⊣ r₁) (l₂ ⊣ r₂) (omega (arith, length-map (t .premises) (λ (a : Added). t .kind)))
         (principal-decoded (named .0) p (named .1) (is .0)) first-sides second-sides in
