@@ -8,11 +8,11 @@ use mathlib.Core.Option.{Option, none, some}
 use lib.Dec.{eqb}
 use lib.ListN.{length, getD, take}
 use borrow.Author.Tests.{eqb-true, eqb-false, ltb-false}
-use Rattle.format.specs.Text.{Bytes, fieldsOf, listOf, strictlyRising}
+use Rattle.format.specs.Text.{Bytes, fieldsOf, sideOf, strictlyRising}
 use Rattle.format.specs.File.{Row, Model, Claim, claimed, File, atomsGiven}
 use Rattle.format.specs.Line.{lineOf}
 use Rattle.format.specs.Tables.{mostOnSide}
-use Rattle.format.specs.Tests.{Test, _when_, rank, first, unknownFormula, badSide, lastIs, claimTests}
+use Rattle.format.specs.Tests.{Test, _when_, rank, first, mayFollow, unknownFormula, badSide, lastIs, claimTests}
 use Rattle.format.specs.Model.{claimModelTests}
 use Rattle.format.specs.Judged.{settled, withClaim, reportedOn}
 use Rattle.format.specs.Good.{Good}
@@ -25,8 +25,8 @@ use Rattle.text.specs.Lists.{listedAs, ListedInto}
 use Rattle.text.specs.declared.lists.Listed.{Listed}
 use Rattle.tables.specs.Holding.{HoldsRows, Sided}
 use Rattle.counts.specs.declared.Counts.{Counts}
-use Rattle.early.specs.Early.{pastOf, numbered}
-use Rattle.rows.proofs.EarlyTests.{past-listed}
+use Rattle.early.specs.Early.{pastOf, badOf, numbered}
+use Rattle.rows.proofs.EarlyTests.{past-listed, bad-listed}
 use Rattle.rows.proofs.Numbering.{first-append, numbered-some}
 use Rattle.models.specs.Models.{Given, ModelNumbered}
 use Rattle.state.specs.State.{refusedBy, claimedBy, modelReport, modelAtoms, modelLine, Memory, Stored}
@@ -58,8 +58,10 @@ module _ {text : Bytes} {f : File} {s : State} {t : Memory} (stored : Stored tex
 
   tests-same : (xs ys : List ℕ) → claimOf (listedAs (some xs)) (listedAs (some ys)) s ++ lastTests f xs ys ≡ claimTests f xs ys
   tests-same xs ys =
-      ap₂ (λ (a b : Bool). (4 when a) ∷ (7 when b) ∷ (9 when badSide xs || badSide ys) ∷ lastTests f xs ys)
+      ap₂ (λ (a b : Bool). (4 when a) ∷ (7 when b) ∷ (9 when badOf (listedAs (some xs)) || badOf (listedAs (some ys))) ∷ lastTests f xs ys)
       (turn-same (f .stage) claimed (stored .stage)) (ap₂ _||_ (past-same xs) (past-same ys))
+      ∙ ap (λ (b : Bool). (4 when not (mayFollow (f .stage) claimed)) ∷ (7 when unknownFormula (f .body) xs || unknownFormula (f .body) ys) ∷ (9 when b) ∷ lastTests f xs ys)
+      (ap₂ _||_ (bad-listed xs) (bad-listed ys))
 
   module _ {xs ys l r : List ℕ} {left right : Listed} (x : Laid xs left l) (y : Laid ys right r) (k : ℕ) (e : numbered k ≡ first (claimOf left right s)) where
     early : numbered k ≡ first (claimOf (listedAs (some xs)) (listedAs (some ys)) s)
@@ -88,13 +90,14 @@ module _ {text : Bytes} {f : File} {s : State} {t : Memory} (stored : Stored tex
           (passes 7 (claimOf (listedAs (some xs)) (listedAs (some ys)) s) through)
 
       sides : (badSide xs ≡ false) × (badSide ys ≡ false)
-      sides = booleans.or-false (badSide xs) _ (passes 9 (claimOf (listedAs (some xs)) (listedAs (some ys)) s) through)
+      sides =
+          let good-sides = booleans.or-false (badOf (listedAs (some xs))) _ (passes 9 (claimOf (listedAs (some xs)) (listedAs (some ys)) s) through) in
+          (sym (bad-listed xs) ∙ good-sides .0, sym (bad-listed ys) ∙ good-sides .1)
 
       side-laid : {zs table : List ℕ} {listed : Listed} → Laid zs listed table → unknownFormula (f .body) zs ≡ false → badSide zs ≡ false
           → take (listed .count) table ≡ zs
       side-laid {zs} {table} z unknown-none rising =
-          ap (λ (a : Listed). take (a .count) table) (z .answer)
-          ∙ z .front (ltb-false mostOnSide (length zs) (booleans.or-false (not (strictlyRising zs)) _ rising .1))
+          z .front (ltb-false mostOnSide (length zs) (booleans.or-false (not (strictlyRising zs)) _ rising .1))
           (λ i m. omega (arith, known-earlier (f .body) zs unknown-none i m, good-held (good .body) .few-nodes))
 
       left-laid : take (left .count) l ≡ xs
@@ -278,9 +281,9 @@ module _ (line : Bytes) (number : ℕ) (formulas rows left right : List ℕ) (s 
 
   module _
       (counted : length (fieldsOf line) ≡ 3) {one two : Bytes} (at-one : one ≡ getD (fieldsOf line) 1 []) (at-two : two ≡ getD (fieldsOf line) 2 [])
-      {was is was′ is′ : List ℕ} {antecedent succedent : Listed} (x : ListedInto one was is antecedent) (y : ListedInto two was′ is′ succedent) where
-    written : (o q : Option (List ℕ)) → listOf one ≡ o → listOf two ≡ q → lineOf line ≡ claimWritten o q
-    written o q h k = line-claim line kind counted ∙ ap₂ claimWritten (ap listOf (sym at-one) ∙ h) (ap listOf (sym at-two) ∙ k)
+      {was is was′ is′ : List ℕ} {antecedent succedent : Listed} (x : ListedInto true one was is antecedent) (y : ListedInto true two was′ is′ succedent) where
+    written : (o q : Option (List ℕ)) → sideOf one ≡ o → sideOf two ≡ q → lineOf line ≡ claimWritten o q
+    written o q h k = line-claim line kind counted ∙ ap₂ claimWritten (ap sideOf (sym at-one) ∙ h) (ap sideOf (sym at-two) ∙ k)
 
     pub claim-left-bad : antecedent .well ≡ false → stepped ≡ refusedBy s 3 number → ClaimLined line number formulas rows left right s stepped
     claim-left-bad h given text start t =
@@ -288,7 +291,7 @@ module _ (line : Bytes) (number : ℕ) (formulas rows left right : List ℕ) (s 
 
     pub claim-right-bad : succedent .well ≡ false → stepped ≡ refusedBy s 3 number → ClaimLined line number formulas rows left right s stepped
     claim-right-bad h given text start t =
-        line-bad (withTables t formulas rows left right) (written _ none refl (not-listed _ (y .answer) h) ∙ neither (listOf one)) given
+        line-bad (withTables t formulas rows left right) (written _ none refl (not-listed _ (y .answer) h) ∙ neither (sideOf one)) given
       where
         neither : (o : Option (List ℕ)) → claimWritten o none ≡ none
         neither none = refl

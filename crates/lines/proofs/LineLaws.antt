@@ -10,7 +10,7 @@ use lib.Dec.{leb}
 use lib.ListN.{length, getD, take, drop, length-append, length-take, length-drop}
 use borrow.Author.Tests.{eq-eqb, ne-eqb, leb-true}
 use Rattle.elk.specs.Rules.{Rule}
-use Rattle.format.specs.Text.{Bytes, bytes, _<$>_, _<*>_, onlyIf, fieldsOf, sameList, numberOf, principalOf, listOf}
+use Rattle.format.specs.Text.{Bytes, bytes, _<$>_, _<*>_, onlyIf, fieldsOf, sameList, numberOf, principalOf, premiseListOf, sideOf}
 use Rattle.format.specs.File.{File}
 use Rattle.format.specs.Line.{
   Line,
@@ -99,8 +99,8 @@ formula-count (kind ∷ fs) e h = ap (λ (k : Bytes). ofKind (k ∷ fs)) e ∙ m
 
 row-fields : (fs : List Bytes) → getD fs 0 [] ≡ bytes "N" → length fs ≡ 7
     → ofKind fs
-    ≡ rowWritten (numberOf (getD fs 1 [])) (ruleOf (getD fs 2 [])) (principalOf (getD fs 3 [])) (listOf (getD fs 4 [])) (listOf (getD fs 5 []))
-    (listOf (getD fs 6 []))
+    ≡ rowWritten (numberOf (getD fs 1 [])) (ruleOf (getD fs 2 [])) (principalOf (getD fs 3 [])) (premiseListOf (getD fs 4 []))
+    (sideOf (getD fs 5 [])) (sideOf (getD fs 6 []))
 unfolding sameList rowFields
 row-fields [] e h = absurd (not-empty e)
 row-fields (kind ∷ fs) e h = ap (λ (k : Bytes). ofKind (k ∷ fs)) e ∙ counted 6 kind fs _ h
@@ -110,7 +110,7 @@ unfolding sameList rowFields
 row-count [] e h = absurd (not-empty e)
 row-count (kind ∷ fs) e h = ap (λ (k : Bytes). ofKind (k ∷ fs)) e ∙ miscounted 6 kind fs _ h
 
-model-fields : (fs : List Bytes) → getD fs 0 [] ≡ bytes "M" → length fs ≡ 2 → ofKind fs ≡ modelWritten (listOf (getD fs 1 []))
+model-fields : (fs : List Bytes) → getD fs 0 [] ≡ bytes "M" → length fs ≡ 2 → ofKind fs ≡ modelWritten (sideOf (getD fs 1 []))
 unfolding sameList modelFields
 model-fields [] e h = absurd (not-empty e)
 model-fields (kind ∷ fs) e h = ap (λ (k : Bytes). ofKind (k ∷ fs)) e ∙ counted 1 kind fs _ h
@@ -120,7 +120,7 @@ unfolding sameList modelFields
 model-count [] e h = absurd (not-empty e)
 model-count (kind ∷ fs) e h = ap (λ (k : Bytes). ofKind (k ∷ fs)) e ∙ miscounted 1 kind fs _ h
 
-claim-fields : (fs : List Bytes) → getD fs 0 [] ≡ bytes "C" → length fs ≡ 3 → ofKind fs ≡ claimWritten (listOf (getD fs 1 [])) (listOf (getD fs 2 []))
+claim-fields : (fs : List Bytes) → getD fs 0 [] ≡ bytes "C" → length fs ≡ 3 → ofKind fs ≡ claimWritten (sideOf (getD fs 1 [])) (sideOf (getD fs 2 []))
 unfolding sameList claimFields
 claim-fields [] e h = absurd (not-empty e)
 claim-fields (kind ∷ fs) e h = ap (λ (k : Bytes). ofKind (k ∷ fs)) e ∙ counted 2 kind fs _ h
@@ -155,7 +155,7 @@ module _ (line : Bytes) where
   pub line-row : OfKind "N" line → length (fieldsOf line) ≡ 7
       → lineOf line
       ≡ rowWritten (numberOf (getD (fieldsOf line) 1 [])) (ruleOf (getD (fieldsOf line) 2 [])) (principalOf (getD (fieldsOf line) 3 []))
-      (listOf (getD (fieldsOf line) 4 [])) (listOf (getD (fieldsOf line) 5 [])) (listOf (getD (fieldsOf line) 6 []))
+      (premiseListOf (getD (fieldsOf line) 4 [])) (sideOf (getD (fieldsOf line) 5 [])) (sideOf (getD (fieldsOf line) 6 []))
   unfolding lineOf
   line-row = row-fields (fieldsOf line)
 
@@ -163,7 +163,7 @@ module _ (line : Bytes) where
   unfolding lineOf
   line-no-row = row-count (fieldsOf line)
 
-  pub line-model : OfKind "M" line → length (fieldsOf line) ≡ 2 → lineOf line ≡ modelWritten (listOf (getD (fieldsOf line) 1 []))
+  pub line-model : OfKind "M" line → length (fieldsOf line) ≡ 2 → lineOf line ≡ modelWritten (sideOf (getD (fieldsOf line) 1 []))
   unfolding lineOf
   line-model = model-fields (fieldsOf line)
 
@@ -172,7 +172,7 @@ module _ (line : Bytes) where
   line-no-model = model-count (fieldsOf line)
 
   pub line-claim : OfKind "C" line → length (fieldsOf line) ≡ 3
-      → lineOf line ≡ claimWritten (listOf (getD (fieldsOf line) 1 [])) (listOf (getD (fieldsOf line) 2 []))
+      → lineOf line ≡ claimWritten (sideOf (getD (fieldsOf line) 1 [])) (sideOf (getD (fieldsOf line) 2 []))
   unfolding lineOf
   line-claim = claim-fields (fieldsOf line)
 
@@ -210,8 +210,11 @@ laid-part (x ∷ xs) (o ∷ was) narrow room =
 
 pub list-laid : {xs table : List ℕ} {listed : Listed} (was : List ℕ) → listed ≡ listedAs (some xs) → table ≡ laidOver xs was → mostOnSide ≤ length was
     → Laid xs listed table
-list-laid {xs} was answer stored room =
-    record { answer = answer; front = λ short narrow. ap (take (length xs)) stored ∙ laid-part xs was narrow (omega arith) }
+list-laid {xs} {listed = listed} was answer stored room =
+    record { answer = answer; front = λ short narrow. ap₂ take (exact short) stored ∙ laid-part xs was narrow (omega arith) }
+  where
+    exact : length xs ≤ mostOnSide → listed .count ≡ length xs
+    exact short = omega (arith, ap (λ (l : Listed). l .count) answer)
 
 -- ---- the number that a line earns
 

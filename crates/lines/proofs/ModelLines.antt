@@ -10,11 +10,11 @@ use lib.ListN.{length, getD, take}
 use borrow.Author.Tests.{eqb-true, eq-eqb, lt-ltb, ltb-true, ltb-false, leb-false}
 use Rattle.equilibrium.specs.Meaning.{_∈_}
 use Rattle.elk.specs.Instance.{Rising}
-use Rattle.format.specs.Text.{Bytes, fieldsOf, listOf, strictlyRising}
+use Rattle.format.specs.Text.{Bytes, any, fieldsOf, sideOf, strictlyRising}
 use Rattle.format.specs.File.{Model, modelled, File}
 use Rattle.format.specs.Line.{lineOf}
 use Rattle.format.specs.Tables.{mostOnSide}
-use Rattle.format.specs.Tests.{_when_, first, notEarlier, badSide, modelLineTests}
+use Rattle.format.specs.Tests.{_when_, first, mayFollow, notEarlier, badSide, modelLineTests}
 use Rattle.format.specs.Judged.{settled, withModel}
 use Rattle.format.specs.Good.{Good}
 use Rattle.format.proofs.Booleans as booleans
@@ -26,8 +26,8 @@ use Rattle.atomset.proofs.Members.{members-unique}
 use Rattle.text.specs.Lists.{listedAs, ListedInto}
 use Rattle.text.specs.declared.lists.Listed.{Listed}
 use Rattle.counts.specs.declared.Counts.{Counts}
-use Rattle.early.specs.Early.{pastOf, numbered}
-use Rattle.rows.proofs.EarlyTests.{past-listed}
+use Rattle.early.specs.Early.{pastOf, badOf, numbered}
+use Rattle.rows.proofs.EarlyTests.{past-listed, bad-listed}
 use Rattle.sides.proofs.Sets.{any-iff}
 use Rattle.state.specs.State.{refusedBy, modelledBy, Memory, Stored}
 use Rattle.state.specs.Lined.{OfKind}
@@ -69,8 +69,9 @@ module _ {text : Bytes} {f : File} {s : State} {t : Memory} (stored : Stored tex
   tests-same : (xs : List ℕ) → modelOf (listedAs (some xs)) s ≡ modelLineTests f xs
   tests-same xs =
       let atoms-held : s .counts .atoms ≡ f .body .atoms = ap (λ (c : Counts). c .atoms) (stored .counts) in
-      ap₂ (λ (a b : Bool). (4 when a) ∷ (7 when b) ∷ (9 when badSide xs) ∷ [])
+      ap₂ (λ (a b : Bool). (4 when a) ∷ (7 when b) ∷ (9 when badOf (listedAs (some xs))) ∷ [])
       (turn-same (f .stage) modelled (stored .stage)) (ap (pastOf (listedAs (some xs))) atoms-held ∙ past-listed xs (f .body .atoms))
+      ∙ ap (λ (b : Bool). (4 when not (mayFollow (f .stage) modelled)) ∷ (7 when any (notEarlier (f .body .atoms)) xs) ∷ (9 when b) ∷ []) (bad-listed xs)
 
   tested : {xs list : List ℕ} {atoms : Listed} (k : ℕ) → Laid xs atoms list → numbered k ≡ first (modelOf atoms s) → numbered k ≡ first (modelLineTests f xs)
   tested {xs} k x e = e ∙ ap (λ (a : Listed). first (modelOf a s)) (x .answer) ∙ ap first (tests-same xs)
@@ -89,7 +90,7 @@ module _ {text : Bytes} {f : File} {s : State} {t : Memory} (stored : Stored tex
     list-members : (w : ℕ) → WordRead (take (atoms .count) list) w → members w ≡ xs
     list-members w read =
         let short = ltb-false mostOnSide (length xs) (side .1) in
-        let laid = ap (λ (a : Listed). take (a .count) list) (x .answer) ∙ x .front short (λ i m. omega (arith, below i m)) in
+        let laid = x .front short (λ i m. omega (arith, below i m)) in
         word-members xs w (subst (λ (ys : List ℕ). WordRead ys w) laid read) (booleans.not-false _ (side .0)) below
 
   model-stored : (w line : ℕ) (m : Model) → members w ≡ m .atoms → line ≡ m .line → Stored text (withModel f m) (modelledBy s w line .state) t
@@ -148,9 +149,9 @@ module _ (line : Bytes) (number : ℕ) (s : State) (stepped : Stepped) (kind : O
   model-miscounted h given text start t = line-bad t (line-no-model line kind h) given
 
   module _ (counted : length (fieldsOf line) ≡ 2) {one : Bytes} (at-one : one ≡ getD (fieldsOf line) 1 [])
-      {was is : List ℕ} {atoms : Listed} (x : ListedInto one was is atoms) where
-    written : (o : Option (List ℕ)) → listOf one ≡ o → lineOf line ≡ modelWritten o
-    written o h = line-model line kind counted ∙ ap modelWritten (ap listOf (sym at-one) ∙ h)
+      {was is : List ℕ} {atoms : Listed} (x : ListedInto true one was is atoms) where
+    written : (o : Option (List ℕ)) → sideOf one ≡ o → lineOf line ≡ modelWritten o
+    written o h = line-model line kind counted ∙ ap modelWritten (ap sideOf (sym at-one) ∙ h)
 
     pub model-bad : atoms .well ≡ false → stepped ≡ refusedBy s 3 number → ModelLined line number s stepped
     model-bad h given text start t = line-bad t (written none (not-listed _ (x .answer) h)) given

@@ -9,7 +9,7 @@ use lib.Dec.{eqb, ltb, lit<}
 use lib.ListN.{length, getD, take}
 use borrow.Author.Tests.{ne-eqb, leb-false, ltb-false}
 use Rattle.elk.specs.Rules.{Rule, codeOf}
-use Rattle.format.specs.Text.{Bytes, numberOf, principalOf, listOf, strictlyRising}
+use Rattle.format.specs.Text.{Bytes, numberOf, principalOf, premiseListOf, sideOf, strictlyRising}
 use Rattle.format.specs.File.{Row, in-rows, File, addRow}
 use Rattle.format.specs.Line.{rowLine, ruleOf, makeRow, lineOf}
 use Rattle.format.specs.Tables.{absent, orAbsent, leftPool, rightPool, rowWidth, rowRecord, rowRecords, mostBytes, mostOnSide, padded}
@@ -141,10 +141,13 @@ module _ (line : Bytes) (kind : OfKind "N" line) (fields : Fields) (fielded : Fi
   abbrev principal : Option (Option ℕ)
   principal = principalOf (fieldBy line fields 3)
 
-  abbrev listAt : ℕ → Option (List ℕ)
-  listAt k = listOf (fieldBy line fields k)
+  abbrev premises : Option (List ℕ)
+  premises = premiseListOf (fieldBy line fields 4)
 
-  is-row : lineOf line ≡ rowWritten own rule principal (listAt 4) (listAt 5) (listAt 6)
+  abbrev sideAt : ℕ → Option (List ℕ)
+  sideAt k = sideOf (fieldBy line fields k)
+
+  is-row : lineOf line ≡ rowWritten own rule principal premises (sideAt 5) (sideAt 6)
   is-row =
       let at-1 = field-found line fields 1 fielded (lit< tt) in
       let at-2 = field-found line fields 2 fielded (lit< tt) in
@@ -155,12 +158,12 @@ module _ (line : Bytes) (kind : OfKind "N" line) (fields : Fields) (fielded : Fi
       line-row line kind (sym (fielded .counted) ∙ counted) ∙ cc
 
   pub row-unread : wellOf row ≡ false → lineOf line ≡ none
-  row-unread h = is-row ∙ badly-written own rule principal (listAt 4) (listAt 5) (listAt 6) (ap wellOf (sym (i .answer)) ∙ h)
+  row-unread h = is-row ∙ badly-written own rule principal premises (sideAt 5) (sideAt 6) (ap wellOf (sym (i .answer)) ∙ h)
 
   pub row-found : wellOf row ≡ true → above ≡ absent ∷ absent ∷ [] → mostOnSide ≤ length l → mostOnSide ≤ length r
       → (n : ℕ) × (q : Row) × (lineOf line ≡ some (rowLine n q)) × RowLaid n q row above′ l′ r′
   row-found h lent left-room right-room =
-      let w = well-written own rule principal (listAt 4) (listAt 5) (listAt 6) (ap wellOf (sym (i .answer)) ∙ h) in
+      let w = well-written own rule principal premises (sideAt 5) (sideAt 6) (ap wellOf (sym (i .answer)) ∙ h) in
       let read : row ≡ rowRead (w .own) (w .row) = i .answer ∙ w .read in
       let laid : RowLaid (w .own) (w .row) row above′ l′ r′ =
       record {
@@ -242,9 +245,12 @@ module _ (text line : Bytes) (start number : ℕ) (s : State) {n : ℕ} {q : Row
       short : (side : List ℕ) {listed : Listed} {table : List ℕ} → Laid side listed table → badSide side ≡ false → unknownFormula (f .body) side ≡ false
           → take (listed .count) table ≡ side
       short side {listed} {table} laid good-side known =
-          ap (λ (z : Listed). take (z .count) table) (laid .answer)
-          ∙ laid .front (ltb-false mostOnSide (length side) (or-false (not (strictlyRising side)) (ltb mostOnSide (length side)) good-side .1))
+          laid .front (ltb-false mostOnSide (length side) (or-false (not (strictlyRising side)) (ltb mostOnSide (length side)) good-side .1))
           (λ x m. omega (arith, known-earlier (f .body) side known x m, good-held (good .body) .few-nodes))
+
+      counted : {side : List ℕ} {listed : Listed} {table : List ℕ} → Laid side listed table → badSide side ≡ false → listed .count ≡ length side
+      counted {side} laid good-side =
+          omega (arith, ap (λ (z : Listed). z .count) (laid .answer), ltb-false mostOnSide (length side) (or-false (not (strictlyRising side)) _ good-side .1))
 
       left-is : take (d .left .count) l ≡ q .left
       left-is = short (q .left) (drafted .left-laid) (fits .left-good) (fits .left-known)
@@ -253,10 +259,10 @@ module _ (text line : Bytes) (start number : ℕ) (s : State) {n : ℕ} {q : Row
       right-is = short (q .right) (drafted .right-laid) (fits .right-good) (fits .right-known)
 
       left-count : d .left .count ≡ length (q .left)
-      left-count = ap (λ (z : Listed). z .count) (drafted .left-laid .answer)
+      left-count = counted (drafted .left-laid) (fits .left-good)
 
       right-count : d .right .count ≡ length (q .right)
-      right-count = ap (λ (z : Listed). z .count) (drafted .right-laid .answer)
+      right-count = counted (drafted .right-laid) (fits .right-good)
 
       rows-count : s .counts .rows ≡ length (f .body .rows)
       rows-count = ap (λ (c : Counts). c .rows) (stored .counts)

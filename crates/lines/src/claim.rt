@@ -20,7 +20,7 @@ use state::Stepped;
 use state::out_of_turn;
 use tables::records::front;
 use text::lists::Listed;
-use text::lists::read_list;
+use text::lists::read_side;
 
 // The first of the numbers 4, 7 and 9 that applies to a claim, 0 if none does.
 fn claim_number(antecedent: Listed, succedent: Listed, state: State) -> u32
@@ -96,8 +96,8 @@ pub(crate) fn claim_line<'a>(
     }
     let mut l = [0u16; MOST_ON_SIDE];
     let mut r = [0u16; MOST_ON_SIDE];
-    let antecedent = read_list(field(line, fields, 1), &mut l);
-    let succedent = read_list(field(line, fields, 2), &mut r);
+    let antecedent = read_side(field(line, fields, 1), &mut l);
+    let succedent = read_side(field(line, fields, 2), &mut r);
     if !antecedent.well {
         return state.refused(BAD_LINE, number);
     }

@@ -19,7 +19,7 @@ use state::out_of_turn;
 use tables::records::front;
 use tables::records::wide;
 use text::lists::Listed;
-use text::lists::read_list;
+use text::lists::read_side;
 
 // The first of the numbers 4, 7 and 9 that applies to the atoms of a model, 0 if none does.
 fn atoms_number(atoms: Listed, state: State) -> u32
@@ -71,7 +71,7 @@ pub(crate) fn model_line(line: &[u8], number: u32, fields: Fields, state: State)
         return state.refused(BAD_LINE, number);
     }
     let mut list = [0u16; MOST_ON_SIDE];
-    let atoms = read_list(field(line, fields, 1), &mut list);
+    let atoms = read_side(field(line, fields, 1), &mut list);
     if !atoms.well {
         return state.refused(BAD_LINE, number);
     }

@@ -18,20 +18,20 @@ returns c =
 field-requires : tie.Need-field-requires
 field-requires c κs = search needs
 
-slice-aggregate-read-list : tie.Need-slice-aggregate-read-list
-slice-aggregate-read-list c = search needs
+slice-aggregate-read-side : tie.Need-slice-aggregate-read-side
+slice-aggregate-read-side c = search needs
 
-read-list-requires : tie.Need-read-list-requires
-read-list-requires c κs = search needs
+read-side-requires : tie.Need-read-side-requires
+read-side-requires c κs = search needs
 
 field-requires-2 : tie.Need-field-requires-2
 field-requires-2 c κs = search needs
 
-slice-aggregate-read-list-2 : tie.Need-slice-aggregate-read-list-2
-slice-aggregate-read-list-2 c = search needs
+slice-aggregate-read-side-2 : tie.Need-slice-aggregate-read-side-2
+slice-aggregate-read-side-2 c = search needs
 
-read-list-requires-2 : tie.Need-read-list-requires-2
-read-list-requires-2 c κs = search needs
+read-side-requires-2 : tie.Need-read-side-requires-2
+read-side-requires-2 c κs = search needs
 
 refused-requires-2 : tie.Need-refused-requires-2
 refused-requires-2 c κs = search needs
@@ -44,8 +44,8 @@ returns-2 c =
     let pre = counted .before .before .before .before .before .before .before .pre in
     claim-left-bad _ _ _ _ _ _ _ _ (pre .1) (sym (pre .0 .counted) ∙ counted .if1 .left)
     (first .before .before .field .ensures .field (pre .0) (lit< tt)) (second .before .before .field2 .ensures .field (pre .0) (lit< tt))
-    (first .read-list .ensures) (second .read-list2 .ensures)
-    (not-true (first .read-list .result .well) (c .before .if2 .taken)) (c .refused2 .ensures)
+    (first .read-side .ensures) (second .read-side2 .ensures)
+    (not-true (first .read-side .result .well) (c .before .if2 .taken)) (c .refused2 .ensures)
 
 refused-requires-3 : tie.Need-refused-requires-3
 refused-requires-3 c κs = search needs
@@ -58,8 +58,8 @@ returns-3 c =
     let pre = counted .before .before .before .before .before .before .before .pre in
     claim-right-bad _ _ _ _ _ _ _ _ (pre .1) (sym (pre .0 .counted) ∙ counted .if1 .left)
     (first .before .before .field .ensures .field (pre .0) (lit< tt)) (second .before .before .field2 .ensures .field (pre .0) (lit< tt))
-    (first .read-list .ensures) (second .read-list2 .ensures)
-    (not-true (second .read-list2 .result .well) (c .before .if3 .taken)) (c .refused3 .ensures)
+    (first .read-side .ensures) (second .read-side2 .ensures)
+    (not-true (second .read-side2 .result .well) (c .before .if3 .taken)) (c .refused3 .ensures)
 
 slice-aggregate-settle-claim : tie.Need-slice-aggregate-settle-claim
 slice-aggregate-settle-claim c = search needs
@@ -78,9 +78,9 @@ returns-4 c =
     let pre = counted .before .before .before .before .before .before .before .pre in
     claim-read _ _ _ _ _ _ _ _ (pre .1) (sym (pre .0 .counted) ∙ counted .if1 .left)
     (first .before .before .field .ensures .field (pre .0) (lit< tt)) (second .before .before .field2 .ensures .field (pre .0) (lit< tt))
-    (first .read-list .ensures) (second .read-list2 .ensures)
-    (not-false (first .read-list .result .well) (c .before .before .before .before .before .if2 .left))
-    (not-false (second .read-list2 .result .well) (c .before .before .before .if3 .left)) (lit≤ tt) (lit≤ tt) (c .settle-claim .ensures)
+    (first .read-side .ensures) (second .read-side2 .ensures)
+    (not-false (first .read-side .result .well) (c .before .before .before .before .before .if2 .left))
+    (not-false (second .read-side2 .result .well) (c .before .before .before .if3 .left)) (lit≤ tt) (lit≤ tt) (c .settle-claim .ensures)
 
 pub claim-line-spec : {M : Type 1} → statement M
 claim-line-spec =
@@ -89,11 +89,11 @@ claim-line-spec =
     refused-requires
     returns
     field-requires
-    slice-aggregate-read-list
-    read-list-requires
+    slice-aggregate-read-side
+    read-side-requires
     field-requires-2
-    slice-aggregate-read-list-2
-    read-list-requires-2
+    slice-aggregate-read-side-2
+    read-side-requires-2
     refused-requires-2
     returns-2
     refused-requires-3

@@ -18,11 +18,11 @@ returns c =
 field-requires : tie.Need-field-requires
 field-requires c κs = search needs
 
-slice-aggregate-read-list : tie.Need-slice-aggregate-read-list
-slice-aggregate-read-list c = search needs
+slice-aggregate-read-side : tie.Need-slice-aggregate-read-side
+slice-aggregate-read-side c = search needs
 
-read-list-requires : tie.Need-read-list-requires
-read-list-requires c κs = search needs
+read-side-requires : tie.Need-read-side-requires
+read-side-requires c κs = search needs
 
 refused-requires-2 : tie.Need-refused-requires-2
 refused-requires-2 c κs = search needs
@@ -33,7 +33,7 @@ returns-2 c =
     let counted = read .before .before .before in
     let pre = counted .before .before .before .pre in
     model-bad _ _ _ _ (pre .1) (sym (pre .0 .counted) ∙ counted .if1 .left) (read .before .before .field .ensures .field (pre .0) (lit< tt))
-    (read .read-list .ensures) (not-true (read .read-list .result .well) (c .before .if2 .taken)) (c .refused2 .ensures)
+    (read .read-side .ensures) (not-true (read .read-side .result .well) (c .before .if2 .taken)) (c .refused2 .ensures)
 
 slice-aggregate-settle-model : tie.Need-slice-aggregate-settle-model
 slice-aggregate-settle-model c = search needs
@@ -48,7 +48,7 @@ returns-3 c =
     let counted = read .before .before .before in
     let pre = counted .before .before .before .pre in
     model-read _ _ _ _ (pre .1) (sym (pre .0 .counted) ∙ counted .if1 .left) (read .before .before .field .ensures .field (pre .0) (lit< tt))
-    (read .read-list .ensures) (not-false (read .read-list .result .well) (well .if2 .left)) (lit≤ tt) (c .settle-model .ensures)
+    (read .read-side .ensures) (not-false (read .read-side .result .well) (well .if2 .left)) (lit≤ tt) (c .settle-model .ensures)
 
 pub model-line-spec : {M : Type 1} → statement M
 model-line-spec =
@@ -57,8 +57,8 @@ model-line-spec =
     refused-requires
     returns
     field-requires
-    slice-aggregate-read-list
-    read-list-requires
+    slice-aggregate-read-side
+    read-side-requires
     refused-requires-2
     returns-2
     slice-aggregate-settle-model
