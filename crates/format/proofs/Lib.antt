@@ -17,6 +17,7 @@ pub mod Joined
 pub mod Sides
 pub mod NumberWritten
 pub mod Same
+pub mod Rewritten
 pub mod WrittenNumbers
 pub mod WrittenLines
 pub mod WrittenBodies
