@@ -1,10 +1,12 @@
--- Paper 01's examples of texts ("A whole file"), and texts with an M line, each with its answer, by one computed proof over the table.
+-- Paper 01's examples of texts ("A whole file"), texts with an M line and texts with runs, each with its answer, by one computed proof
+-- over the table.
 use mathlib.Core.Path.{_≡_, refl}
 use mathlib.Core.List.{List, [], _∷_, _++_, map}
 use native.Mathlib.Decide.{ℕ-discrete}
 use Rattle.equilibrium.proofs.Models.{equilibrium?}
 use Rattle.elk.proofs.Decision.{instance?}
-use Rattle.format.specs.Text.{Bytes, bytes, partsAt, linesOf, fieldsOf, sameList, numberOf, listOf, itemOf, itemsOf, upFrom, sideOf, principalOf, isName, strictlyRising}
+use Rattle.format.specs.Text.{Bytes, bytes, partsAt, linesOf, fieldsOf, sameList, numberOf, listOf, itemOf, itemsOf, upFrom, sideOf}
+use Rattle.format.specs.Text.{principalOf, isName, strictlyRising}
 use Rattle.format.specs.Line.{ruleOf, nodeOf, atomFields, formulaFields, rowFields, modelFields, claimFields, lineOf}
 use Rattle.format.specs.File.{formulas}
 use Rattle.format.specs.Tables.{Lent, tooShort}
@@ -75,6 +77,10 @@ falsity = bytes "F\t0\tbot\t-\t-\nF\t1\tand\t0\t0\nN\t0\tsame\t1\t-\t1\t1\n"
 abbrev lastRow : Bytes
 lastRow = bytes "N\t4\timpl\t2\t2,3\t2\t3\n"
 
+-- two atoms, both as formulas, and bot: what p, q => p, q, # is derived from
+abbrev pair : Bytes
+pair = bytes "A\t0\tp\nA\t1\tq\nF\t0\tatom\t0\t-\nF\t1\tatom\t1\t-\nF\t2\tbot\t-\t-\n"
+
 abbrev pub examples : List Example
 examples =
     -- the whole file
@@ -120,10 +126,39 @@ examples =
     -- a second M line, and a row after it
     ∷ (truth ++ bytes "M\t-\nM\t-\n" earns turnedDown 4 5)
     ∷ (truth ++ bytes "M\t-\nN\t1\tsame\t1\t-\t1\t1\n" earns turnedDown 4 5)
+    -- runs in a row, a model and a claim
+    ∷ (pair ++ bytes "N\t0\tsame\t0\t-\t0-1\t0-2\nM\t0-1\nC\t0,1\t0,1-2\n" earns accepted 8)
+    -- first and last are numbers of 01's form, the first smaller; 3
+    ∷ (bytes "C\t0-0\t-\n" earns turnedDown 3 1)
+    ∷ (bytes "C\t2-0\t-\n" earns turnedDown 3 1)
+    ∷ (bytes "C\t0-02\t-\n" earns turnedDown 3 1)
+    ∷ (bytes "C\t0-1-2\t-\n" earns turnedDown 3 1)
+    ∷ (bytes "C\t0-\t-\n" earns turnedDown 3 1)
+    ∷ (bytes "C\t-2\t-\n" earns turnedDown 3 1)
+    ∷ (bytes "C\t0,-\t-\n" earns turnedDown 3 1)
+    ∷ (bytes "M\t1-0\n" earns turnedDown 3 1)
+    -- no runs in premises
+    ∷ (bytes "N\t0\tandr\t0\t0-1\t-\t-\n" earns turnedDown 3 1)
+    -- a badly written run comes before 4, a well written one after it
+    ∷ (bytes "N\t1\tsame\t0\t-\t0-0\t0\n" earns turnedDown 3 1)
+    ∷ (bytes "N\t1\tsame\t0\t-\t0-1\t0\n" earns turnedDown 4 1)
+    -- 7 by the last of a run
+    ∷ (pair ++ bytes "N\t0\tsame\t0\t-\t0-3\t0\n" earns turnedDown 7 6)
+    ∷ (pair ++ bytes "M\t0-2\n" earns turnedDown 7 6)
+    ∷ (pair ++ bytes "C\t0\t0-3\n" earns turnedDown 7 6)
+    -- runs that meet do not rise
+    ∷ (pair ++ bytes "N\t0\tsame\t0\t-\t0-1,1-2\t0\n" earns turnedDown 9 6)
+    -- limits count what is meant: 64 on a side fit, 65 earn 9, and a model of 17 atoms earns 16
+    ∷ (sixtyFiveFormulas ++ bytes "N\t0\tsame\t1\t-\t1\t0-63\nM\t-\nC\t1\t0-63\n" earns accepted 68)
+    ∷ (sixtyFiveFormulas ++ bytes "N\t0\tsame\t0\t-\t0\t0-64\n" earns turnedDown 9 66)
+    ∷ (sixtyFourAtoms ++ truth ++ bytes "M\t0-16\nC\t1\t1\n" earns turnedDown 16 68)
+    -- 16,385 entries pass the pool before 7 is asked, 16,384 do not
+    ∷ (bytes "N\t0\tsame\t0\t-\t0-16384\t0\n" earns turnedDown 5 1)
+    ∷ (bytes "N\t0\tsame\t0\t-\t0-16383\t0\n" earns turnedDown 7 1)
     ∷ []
 
 pub examples-hold : map (λ e. judged full (e .text)) examples ≡ map (λ e. e .answer) examples
 unfolding judged beginning run step stepRead lineOf atomFields formulaFields rowFields modelFields claimFields ruleOf nodeOf
-    linesOf fieldsOf partsAt sameList numberOf listOf itemOf itemsOf upFrom sideOf principalOf isName strictlyRising formulas tooShort wrongPremises wrongStep instance?
-    contradiction? equilibrium? ℕ-discrete
+    linesOf fieldsOf partsAt sameList numberOf listOf itemOf itemsOf upFrom sideOf principalOf isName strictlyRising formulas
+    tooShort wrongPremises wrongStep instance? contradiction? equilibrium? ℕ-discrete
 examples-hold = refl
