@@ -60,7 +60,7 @@ use Rattle.format.proofs.Tested.{passes, follows-once, in-order}
 use Rattle.format.proofs.GoodBodies.{Distinct, distinct-snoc}
 use Rattle.format.proofs.ModelFits.{model-passes-iff}
 
-settled-next : (o : Option ℕ) (line : ℕ) (f t : File) → settled o line f ≡ next t → (o ≡ none) × (f ≡ t)
+pub settled-next : (o : Option ℕ) (line : ℕ) (f t : File) → settled o line f ≡ next t → (o ≡ none) × (f ≡ t)
 settled-next none line f t e = (refl, cc)
 settled-next (some n) line f t e = let z : _≡_ {A = ℕ} 0 1 = cc in absurd (omega arith)
 

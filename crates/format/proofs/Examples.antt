@@ -1,16 +1,26 @@
--- Paper 01's examples of texts ("A whole file"), and texts with an M line, each with its answer, by one computed proof over the table.
+-- Paper 01's examples of texts ("A whole file"), texts with an M line and texts with runs, each with its answer, by one computed proof
+-- over the table. And a text with its sets written in two ways.
+use Prim.Native.Nat.{ℕ}
 use mathlib.Core.Path.{_≡_, refl}
+use mathlib.Core.Bool.{true}
 use mathlib.Core.List.{List, [], _∷_, _++_, map}
+use mathlib.Core.Logic.{inl, inr}
+use mathlib.Core.Option.{some}
+use native.Mathlib.Omega.{arith}
 use native.Mathlib.Decide.{ℕ-discrete}
+use Rattle.equilibrium.proofs.Sets.{≈-refl}
 use Rattle.equilibrium.proofs.Models.{equilibrium?}
 use Rattle.elk.proofs.Decision.{instance?}
-use Rattle.format.specs.Text.{Bytes, bytes, partsAt, linesOf, fieldsOf, sameList, numberOf, listOf, itemOf, itemsOf, upFrom, sideOf, principalOf, isName, strictlyRising}
+use Rattle.format.specs.Text.{Bytes, bytes, partsAt, linesOf, fieldsOf, sameList, numberOf, listOf, itemOf, itemsOf, upFrom, sideOf}
+use Rattle.format.specs.Text.{principalOf, isName, strictlyRising}
 use Rattle.format.specs.Line.{ruleOf, nodeOf, atomFields, formulaFields, rowFields, modelFields, claimFields, lineOf}
 use Rattle.format.specs.File.{formulas}
 use Rattle.format.specs.Tables.{Lent, tooShort}
 use Rattle.format.specs.Tests.{wrongPremises, wrongStep}
 use Rattle.format.specs.Model.{contradiction?}
-use Rattle.format.specs.Judged.{Ruling, accepted, turnedDown, judged, beginning, run, step, stepRead}
+use Rattle.format.specs.Judged.{Ruling, accepted, turnedDown, judged, contents, beginning, run, step, stepRead}
+use Rattle.format.specs.Same.{SideRewritten, LineRewritten, kept, row, model, claim, Rewritten}
+use Rattle.format.proofs.Rewritten.{rewritten-same-tables}
 
 pub record Example : Type 0 where
   pub text : Bytes
@@ -75,6 +85,17 @@ falsity = bytes "F\t0\tbot\t-\t-\nF\t1\tand\t0\t0\nN\t0\tsame\t1\t-\t1\t1\n"
 abbrev lastRow : Bytes
 lastRow = bytes "N\t4\timpl\t2\t2,3\t2\t3\n"
 
+-- two atoms, both as formulas, and bot
+abbrev pair : Bytes
+pair = bytes "A\t0\tp\nA\t1\tq\nF\t0\tatom\t0\t-\nF\t1\tatom\t1\t-\nF\t2\tbot\t-\t-\n"
+
+-- a derivation of p, q => p, q, # with its model, without runs and with them
+abbrev long : Bytes
+long = pair ++ bytes "N\t0\tsame\t0\t-\t0,1\t0,1,2\nM\t0,1\nC\t0,1\t0,1,2\n"
+
+abbrev short : Bytes
+short = pair ++ bytes "N\t0\tsame\t0\t-\t0-1\t0-2\nM\t0-1\nC\t0,1\t0,1-2\n"
+
 abbrev pub examples : List Example
 examples =
     -- the whole file
@@ -120,10 +141,64 @@ examples =
     -- a second M line, and a row after it
     ∷ (truth ++ bytes "M\t-\nM\t-\n" earns turnedDown 4 5)
     ∷ (truth ++ bytes "M\t-\nN\t1\tsame\t1\t-\t1\t1\n" earns turnedDown 4 5)
+    -- runs in a row, a model and a claim
+    ∷ (short earns accepted 8)
+    -- first and last are numbers of 01's form, the first smaller; 3
+    ∷ (bytes "C\t0-0\t-\n" earns turnedDown 3 1)
+    ∷ (bytes "C\t2-0\t-\n" earns turnedDown 3 1)
+    ∷ (bytes "C\t0-02\t-\n" earns turnedDown 3 1)
+    ∷ (bytes "C\t0-1-2\t-\n" earns turnedDown 3 1)
+    ∷ (bytes "C\t0-\t-\n" earns turnedDown 3 1)
+    ∷ (bytes "C\t-2\t-\n" earns turnedDown 3 1)
+    ∷ (bytes "C\t0,-\t-\n" earns turnedDown 3 1)
+    ∷ (bytes "M\t1-0\n" earns turnedDown 3 1)
+    -- no runs in premises
+    ∷ (bytes "N\t0\tandr\t0\t0-1\t-\t-\n" earns turnedDown 3 1)
+    -- a badly written run comes before 4, a well written one after it
+    ∷ (bytes "N\t1\tsame\t0\t-\t0-0\t0\n" earns turnedDown 3 1)
+    ∷ (bytes "N\t1\tsame\t0\t-\t0-1\t0\n" earns turnedDown 4 1)
+    -- 7 by the last of a run
+    ∷ (pair ++ bytes "N\t0\tsame\t0\t-\t0-3\t0\n" earns turnedDown 7 6)
+    ∷ (pair ++ bytes "M\t0-2\n" earns turnedDown 7 6)
+    ∷ (pair ++ bytes "C\t0\t0-3\n" earns turnedDown 7 6)
+    -- runs that meet do not rise
+    ∷ (pair ++ bytes "N\t0\tsame\t0\t-\t0-1,1-2\t0\n" earns turnedDown 9 6)
+    -- limits count what is meant: 64 on a side fit, 65 earn 9, and a model of 17 atoms earns 16
+    ∷ (sixtyFiveFormulas ++ bytes "N\t0\tsame\t1\t-\t1\t0-63\nM\t-\nC\t1\t0-63\n" earns accepted 68)
+    ∷ (sixtyFiveFormulas ++ bytes "N\t0\tsame\t0\t-\t0\t0-64\n" earns turnedDown 9 66)
+    ∷ (sixtyFourAtoms ++ truth ++ bytes "M\t0-16\nC\t1\t1\n" earns turnedDown 16 68)
+    -- 16,385 entries pass the pool before 7 is asked, 16,384 do not
+    ∷ (bytes "N\t0\tsame\t0\t-\t0-16384\t0\n" earns turnedDown 5 1)
+    ∷ (bytes "N\t0\tsame\t0\t-\t0-16383\t0\n" earns turnedDown 7 1)
     ∷ []
 
 pub examples-hold : map (λ e. judged full (e .text)) examples ≡ map (λ e. e .answer) examples
 unfolding judged beginning run step stepRead lineOf atomFields formulaFields rowFields modelFields claimFields ruleOf nodeOf
-    linesOf fieldsOf partsAt sameList numberOf listOf itemOf itemsOf upFrom sideOf principalOf isName strictlyRising formulas tooShort wrongPremises wrongStep instance?
-    contradiction? equilibrium? ℕ-discrete
+    linesOf fieldsOf partsAt sameList numberOf listOf itemOf itemsOf upFrom sideOf principalOf isName strictlyRising formulas
+    tooShort wrongPremises wrongStep instance? contradiction? equilibrium? ℕ-discrete
 examples-hold = refl
+
+-- the text with runs is the other one, with its sets written in another way
+rewritten : Rewritten long short
+unfolding linesOf fieldsOf partsAt sameList numberOf itemOf itemsOf upFrom sideOf strictlyRising
+rewritten =
+    record { lines = (kept refl, (kept refl, (kept refl, (kept refl, (kept refl, (in-row, (in-model, (in-claim, tt)))))))); rest = refl }
+  where
+    set : (one other : Bytes) (xs : List ℕ) → sideOf one ≡ some xs → sideOf other ≡ some xs → strictlyRising xs ≡ true → SideRewritten one other
+    set one other xs e k r =
+        inr (record { first = xs; second = xs; reads-first = e; reads-second = k; first-rises = r; second-rises = r; same-set = ≈-refl })
+
+    two : SideRewritten (bytes "0,1") (bytes "0-1")
+    two = set _ _ (0 ∷ 1 ∷ []) refl refl refl
+
+    in-row : LineRewritten (bytes "N\t0\tsame\t0\t-\t0,1\t0,1,2") (bytes "N\t0\tsame\t0\t-\t0-1\t0-2")
+    in-row = row (bytes "0") (bytes "same") (bytes "0") (bytes "-") _ _ _ _ refl refl two (set _ _ (0 ∷ 1 ∷ 2 ∷ []) refl refl refl)
+
+    in-model : LineRewritten (bytes "M\t0,1") (bytes "M\t0-1")
+    in-model = model _ _ refl refl two
+
+    in-claim : LineRewritten (bytes "C\t0,1\t0,1,2") (bytes "C\t0,1\t0,1-2")
+    in-claim = claim _ _ _ _ refl refl (inl refl) (set _ _ (0 ∷ 1 ∷ 2 ∷ []) refl refl refl)
+
+pub two-ways : (judged full long ≡ judged full short) × (contents full long ≡ contents full short)
+two-ways = rewritten-same-tables full long short (omega arith) (omega arith) rewritten

@@ -1,13 +1,14 @@
 -- Parts that are joined come apart again: the entries of a list, the fields of a line, and lines.
 use Prim.Native.Nat.{ℕ}
-use mathlib.Core.Path.{_≡_, refl, ap, _∙_}
-use mathlib.Core.Bool.{false}
+use native.Mathlib.Omega.{arith}
+use mathlib.Core.Path.{_≡_, refl, sym, ap, ap₂, _∙_}
+use mathlib.Core.Bool.{Bool, true, false, cond}
 use mathlib.Core.List.{List, [], _∷_, _++_}
 use lib.Dec.{eqb}
-use borrow.Author.Tests.{eq-eqb}
-use Rattle.format.specs.Text.{Bytes, lineFeed, tab, Lines, partsAt, linesOf, fieldsOf}
+use borrow.Author.Tests.{eq-eqb, eqb-true}
+use Rattle.format.specs.Text.{Bytes, lineFeed, tab, Lines, onto, partsAt, linesOf, fieldsOf}
 use Rattle.format.specs.Written.{Each, parted, ended}
-use Rattle.format.proofs.Stepping.{lines-cons, lines-last}
+use Rattle.format.proofs.Stepping.{parts-some, lines-cons, lines-last}
 
 module _ {X : Type 0} (P : X → Type 0) where
   pub each-append : (xs ys : List X) → Each P xs → Each P ys → Each P (xs ++ ys)
@@ -46,6 +47,19 @@ module _ (s : ℕ) where
   parted-without c h [] w = tt
   parted-without c h (p ∷ []) w = w .0
   parted-without c h (p ∷ q ∷ qs) w = each-append _ p (c ∷ parted c (q ∷ qs)) (w .0) (h, parted-without c h (q ∷ qs) (w .1))
+
+  -- what comes apart is joined again
+  pub parted-back : (bs : Bytes) → parted s (partsAt s bs) ≡ bs
+  unfolding partsAt parted
+  parted-back [] = refl
+  parted-back (b ∷ bs) = by-test (eqb b s) refl (partsAt s bs) (parts-some s bs) (parted-back bs)
+    where
+      by-test : (t : Bool) → eqb b s ≡ t → (ps : List Bytes) → (q : Bytes) × (qs : List Bytes) × (ps ≡ q ∷ qs) → parted s ps ≡ bs
+          → parted s (cond t ([] ∷ ps) (onto b ps)) ≡ b ∷ bs
+      by-test t h [] r e = let z : _≡_ {A = ℕ} 0 1 = cc in absurd (omega arith)
+      by-test true h (q ∷ qs) r e = ap₂ (λ (c : ℕ) (cs : Bytes). c ∷ cs) (sym (eqb-true b s h)) e
+      by-test false h (q ∷ []) r e = ap (λ (cs : Bytes). b ∷ cs) e
+      by-test false h (q ∷ p ∷ ps) r e = ap (λ (cs : Bytes). b ∷ cs) e
 
 -- fields that were joined by tabs
 pub fields-parted : (p : Bytes) (ps : List Bytes) → Each (Without tab) (p ∷ ps) → fieldsOf (parted tab (p ∷ ps)) ≡ p ∷ ps

@@ -15,6 +15,9 @@ pub mod Accepted
 pub mod Examples
 pub mod Joined
 pub mod Sides
+pub mod NumberWritten
+pub mod Same
+pub mod Rewritten
 pub mod WrittenNumbers
 pub mod WrittenLines
 pub mod WrittenBodies

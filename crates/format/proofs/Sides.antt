@@ -5,7 +5,7 @@ use mathlib.Core.Bool.{Bool, true, false, not, cond, _&&_, true≢false, false�
 use mathlib.Core.List.{List, [], _∷_}
 use mathlib.Core.Option.{Option, none, some}
 use native.Mathlib.Omega.{arith}
-use lib.Dec.{eqb, leb}
+use lib.Dec.{leb}
 use lib.ListN.{length}
 use borrow.Author.Tests.{leb-true, ne-eqb}
 use Rattle.format.specs.Text.{Bytes, comma, hyphen, all, each, is, isDigit, leadingZero, valueFrom, onlyIf, numberOf, listOf, partsAt, _<$>_, _<*>_}

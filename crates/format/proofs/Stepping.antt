@@ -31,7 +31,7 @@ module _ (f : File) (p : Place) (line : Bytes) where
   unfolding step
   step-bad e = ap (λ (o : Option Line). orBadLine o p (stepRead f p line)) e
 
-  step-well : (l : Line) → lineOf line ≡ some l → step f p line ≡ stepRead f p line l
+  pub step-well : (l : Line) → lineOf line ≡ some l → step f p line ≡ stepRead f p line l
   unfolding step
   step-well l e = ap (λ (o : Option Line). orBadLine o p (stepRead f p line)) e
 
