@@ -15,13 +15,14 @@ use Rattle.format.specs.Text.{Bytes, comma, hyphen, partsAt, onlyIf, Item, isOr
 use Rattle.format.proofs.Sides.{number-parts, number-item}
 use Rattle.parts.specs.Parts.{before, nextAt, between}
 use Rattle.parts.proofs.PartLaws.{next-inside, next-found, next-least, next-bounds, next-same, next-part, last-part, first-part}
-use Rattle.text.specs.Numbers.{numberAs, digitsAhead, entryAs, numberAt}
-use Rattle.text.specs.Items.{itemBy, spanAs, partAt, entryAt, itemAt, runAt}
+use Rattle.text.specs.Numbers.{numberAs, digitsAhead, numberAt}
+use Rattle.text.specs.Items.{itemBy, spanAs, partAt, itemAt, runAt}
 use Rattle.text.specs.Lists.{spanned}
 use Rattle.text.specs.declared.numbers.Entry.{Entry}
+use Rattle.text.specs.declared.numbers.Number.{Number}
 use Rattle.text.specs.declared.items.Span.{Span}
 use Rattle.text.proofs.ListLaws.{spanned-one}
-use Rattle.text.proofs.NumberLaws.{digits-to, was-bad, was-value, part-bad, part-within, part-cut, part-full}
+use Rattle.text.proofs.NumberLaws.{digits-to, was-number, was-no-number, part-bad, part-within, part-cut, part-full}
 
 -- ---- an item by its parts
 
@@ -115,24 +116,24 @@ module _ (first : ℕ) (field : Bytes) (start : ℕ) where
   unfolding runAt
   run-is o e = ap (λ o. spanAs (passing isOrdered ((λ last. Item.run first last) <$> o)) (nextAt comma field start)) (sym e)
 
-  pub run-bad : entryAt field start ≡ Entry.Bad → Span.Bad ≡ runAt first field start
-  unfolding entryAt
-  run-bad e = run-is none (was-bad (numberOf (partAt field start)) (nextAt comma field start) e)
+  module _ {end : ℕ} (to : end ≡ nextAt comma field start) {r : Number} (answer : r ≡ numberAs (numberOf (between field start end))) where
+    number-is : (n : Number) → r ≡ n → numberAs (numberOf (partAt field start)) ≡ n
+    number-is n h = ap (λ k. numberAs (numberOf (between field start k))) (sym to) ∙ sym answer ∙ h
 
-  module _ (last end : ℕ) (e : entryAt field start ≡ Entry.Value last end) where
-    last-read : (numberOf (partAt field start) ≡ some last) × (nextAt comma field start ≡ end)
-    unfolding entryAt
-    last-read = was-value (numberOf (partAt field start)) (nextAt comma field start) last end e
+    pub run-bad : r ≡ Number.Bad → Span.Bad ≡ runAt first field start
+    run-bad h = run-is none (was-no-number (numberOf (partAt field start)) (number-is Number.Bad h))
 
-    run-tested : (t : Bool) → ltb first last ≡ t → spanAs (onlyIf t (some (Item.run first last))) end ≡ runAt first field start
-    run-tested t h =
-        ap₂ (λ t k. spanAs (onlyIf t (some (Item.run first last))) k) (sym h) (sym (last-read .1)) ∙ run-is (some last) (last-read .0)
+    module _ {last : ℕ} (h : r ≡ Number.Value last) where
+      run-tested : (t : Bool) → ltb first last ≡ t → spanAs (onlyIf t (some (Item.run first last))) end ≡ runAt first field start
+      run-tested t k =
+          let value = was-number (numberOf (partAt field start)) last (number-is (Number.Value last) h) in
+          ap₂ (λ t k. spanAs (onlyIf t (some (Item.run first last))) k) (sym k) to ∙ run-is (some last) value
 
-    pub run-rises : first < last → Span.Of first last end ≡ runAt first field start
-    run-rises h = run-tested true (lt-ltb first last h)
+      pub run-rises : first < last → Span.Of first last end ≡ runAt first field start
+      run-rises l = run-tested true (lt-ltb first last l)
 
-    pub run-falls : last ≤ first → Span.Bad ≡ runAt first field start
-    run-falls h = run-tested false (le-ltb first last h)
+      pub run-falls : last ≤ first → Span.Bad ≡ runAt first field start
+      run-falls l = run-tested false (le-ltb first last l)
 
 -- ---- the item at a place
 
@@ -171,10 +172,6 @@ module _ (field : List ℕ) (at : ℕ) (inside : at ≤ length field) where
       let size : nextAt hyphen part 0 - 0 ≡ before hyphen part = omega (arith, next-inside hyphen part 0 (omega arith)) in
       ap (λ n. digitsAhead (take n part)) size ∙ digits-to hyphen refl part ∙ part-digits
 
-  entry-is : (o : Option ℕ) → numberOf part ≡ o → entryAs (numberAs o) (nextAt comma field at) ≡ entryAt field at
-  unfolding entryAt part
-  entry-is o e = ap (λ o. entryAs (numberAs o) (nextAt comma field at)) (sym e)
-
   item-is : (runs : Bool) (o : Option Item) → itemBy runs part ≡ o → spanAs o (nextAt comma field at) ≡ itemAt runs field at
   unfolding itemAt part
   item-is runs o e = ap (λ o. spanAs o (nextAt comma field at)) (sym e)
@@ -189,9 +186,6 @@ module _ (field : List ℕ) (at : ℕ) (inside : at ≤ length field) where
   one-item : (runs : Bool) (n : ℕ) → numberOf part ≡ some n → itemBy runs part ≡ some (Item.one n)
   one-item true n e = number-item part n e
   one-item false n e = ap (λ o. (λ n. Item.one n) <$> o) e
-
-  pub entry-bad : numberAt field at ≡ Entry.Bad → Entry.Bad ≡ entryAt field at
-  entry-bad e = entry-is none (part-bad field at part part-digits e)
 
   pub item-bad : (runs : Bool) → numberAt field at ≡ Entry.Bad → Span.Bad ≡ itemAt runs field at
   item-bad runs e = item-is runs none (no-item runs (part-bad field at part part-digits e) (part-bad field at head head-digits e))
@@ -208,46 +202,28 @@ module _ (field : List ℕ) (at : ℕ) (inside : at ≤ length field) where
       number-there : numberOf part ≡ some n
       number-there = part-full field at part part-digits n end e (omega (arith, part-end))
 
-      entry-full : Entry.Value n end ≡ entryAt field at
-      entry-full = ap (Entry.Value n) there ∙ entry-is (some n) number-there
-
       item-full : (runs : Bool) → Span.Of n n end ≡ itemAt runs field at
       item-full runs = ap (Span.Of n n) there ∙ item-is runs (some (Item.one n)) (one-item runs n number-there)
 
-    to-end : end ≡ length field → nextAt comma field at ≤ end
-    to-end h = omega (arith, next-bounds comma field at inside)
-
-    pub entry-last : end ≡ length field → Entry.Value n end ≡ entryAt field at
-    entry-last h = entry-full (to-end h)
-
     pub item-last : (runs : Bool) → end ≡ length field → Span.Of n n end ≡ itemAt runs field at
-    item-last runs h = item-full (to-end h) runs
+    item-last runs h = item-full (omega (arith, next-bounds comma field at inside)) runs
 
     module _ (not-last : end ≡ length field → ⊥) where
-      pub entry-inside : end < length field
-      entry-inside = lt-of-le-of-ne (omega (arith, up-to, next-bounds comma field at inside)) not-last
-
-      to-comma : getD field end 0 ≡ comma → nextAt comma field at ≤ end
-      to-comma c = next-least comma field at end (up-to .0) entry-inside c
-
-      pub entry-parted : getD field end 0 ≡ comma → Entry.Value n end ≡ entryAt field at
-      entry-parted c = entry-full (to-comma c)
+      pub number-inside : end < length field
+      number-inside = lt-of-le-of-ne (omega (arith, up-to, next-bounds comma field at inside)) not-last
 
       pub item-comma : (runs : Bool) → getD field end 0 ≡ comma → Span.Of n n end ≡ itemAt runs field at
-      item-comma runs c = item-full (to-comma c) runs
+      item-comma runs c = item-full (next-least comma field at end (up-to .0) number-inside c) runs
 
       -- more stands there than the number
       module _ (no-comma : getD field end 0 ≡ comma → ⊥) where
         past : end < nextAt comma field at
         past =
             let found = next-found comma field at inside in
-            lt-of-le-of-ne (up-to .1) (λ there. no-comma (ap (λ k. getD field k 0) there ∙ found (omega (arith, entry-inside))))
+            lt-of-le-of-ne (up-to .1) (λ there. no-comma (ap (λ k. getD field k 0) there ∙ found (omega (arith, number-inside))))
 
         no-number : numberOf part ≡ none
         no-number = part-cut field at part part-digits n end e (omega (arith, part-end, past))
-
-        pub entry-stray : Entry.Bad ≡ entryAt field at
-        entry-stray = entry-is none no-number
 
         byte-here : getD part (end - at) 0 ≡ getD field end 0
         byte-here = part-byte end (up-to .0) past
@@ -293,7 +269,7 @@ module _ (field : List ℕ) (at : ℕ) (inside : at ≤ length field) where
                 ∙ ap (λ k. head ∷ partsAt hyphen (drop (k + 1) part)) place
 
             next-is : nextAt comma field (end + 1) ≡ nextAt comma field at
-            next-is = next-same comma field at (end + 1) (omega (arith, up-to .0)) (omega (arith, past)) (omega (arith, entry-inside))
+            next-is = next-same comma field at (end + 1) (omega (arith, up-to .0)) (omega (arith, past)) (omega (arith, number-inside))
 
             rest-is : rest ≡ partAt field (end + 1)
             rest-is =

@@ -155,6 +155,11 @@ laid-first table at first last h =
     let same : last - first ≡ last + 1 - (first + 1) = omega arith in
     ap (laidAt table at) (spanned-cons first last h) ∙ ap (λ k. laidAt (set table at (min first 65535)) (at + 1) (upFrom (first + 1) k)) same
 
+-- one number
+laid-one : (table : List ℕ) (at first last : ℕ) → first ≡ last → set table at (min first 65535) ≡ laidAt table at (spanned first last)
+unfolding laidAt
+laid-one table at first last h = ap (laidAt table at) (sym (spanned-one first)) ∙ ap (λ n. laidAt table at (spanned first n)) h
+
 -- the numbers before `n` are stored; the others go from `place` on
 pub record Storing (was : List ℕ) (at first last : ℕ) (out : List ℕ) (place n : ℕ) : Type 0 where
   pub ordered : n ≤ last
@@ -170,10 +175,8 @@ module _ (was : List ℕ) (at first last : ℕ) (out : List ℕ) (place n : ℕ)
     storing-length = length-set out place v ∙ s .kept
 
     pub stored-last : n ≡ last → set out place v ≡ laidAt was at (spanned first last)
-    unfolding laidAt
     stored-last h =
-        let one = ap (λ m. laidAt out place (spanned n m)) (sym h) ∙ ap (laidAt out place) (spanned-one n) in
-        ap (set out place) capped ∙ sym (s .rest ∙ one)
+        ap (set out place) capped ∙ laid-one out place n last h ∙ sym (s .rest)
 
     pub storing-more : (n ≡ last → ⊥) → Storing was at first last (set out place v) (place + 1) (n + 1)
     storing-more h =
@@ -202,3 +205,11 @@ run-more first last xs was is is′ listed r short h stored known =
     by-test false e =
         let exact : listed .count ≡ length xs = omega (arith, listed-count listed xs (h .answer), ltb-false mostCounted (length xs) e) in
         ap (λ k. laidAt is k (spanned first last)) exact
+
+-- a run of one number
+pub number-more : (first last : ℕ) → first ≡ last → (xs was is is′ : List ℕ) (listed r : Listed) → length is ≤ mostCounted → HeldList xs was is listed
+    → is′ ≡ set is (listed .count) (min first 65535) → (listed ≡ listedAs (some xs) → r ≡ listedAs (some (xs ++ spanned first first)))
+    → HeldList (xs ++ spanned first last) was is′ r
+number-more first last same xs was is is′ listed r short h stored known =
+    run-more first last xs was is is′ listed r short h (stored ∙ laid-one is (listed .count) first last same)
+    (λ e. known e ∙ ap (λ n. listedAs (some (xs ++ spanned first n))) same)

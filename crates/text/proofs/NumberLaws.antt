@@ -147,12 +147,21 @@ digits-to s no-digit (b ∷ bs) = by-test (eqb b s) refl (digits-to s no-digit b
 
 -- ---- a part of a field with the digits from `start` on: it is a number where it has nothing else
 
--- what an entry tells of its number
-pub was-bad : (o : Option ℕ) (end : ℕ) → entryAs (numberAs o) end ≡ Entry.Bad → o ≡ none
+-- what an answer tells of the number
+pub was-no-number : (o : Option ℕ) → numberAs o ≡ Number.Bad → o ≡ none
+was-no-number none e = refl
+was-no-number (some n) e = let z : _≡_ {A = ℕ} 0 1 = cc in absurd (omega arith)
+
+pub was-number : (o : Option ℕ) (n : ℕ) → numberAs o ≡ Number.Value n → o ≡ some n
+was-number none n e = let z : _≡_ {A = ℕ} 0 1 = cc in absurd (omega arith)
+was-number (some m) n e = cc
+
+-- and an entry
+was-bad : (o : Option ℕ) (end : ℕ) → entryAs (numberAs o) end ≡ Entry.Bad → o ≡ none
 was-bad none end e = refl
 was-bad (some n) end e = let z : _≡_ {A = ℕ} 0 1 = cc in absurd (omega arith)
 
-pub was-value : (o : Option ℕ) (k n end : ℕ) → entryAs (numberAs o) k ≡ Entry.Value n end → (o ≡ some n) × (k ≡ end)
+was-value : (o : Option ℕ) (k n end : ℕ) → entryAs (numberAs o) k ≡ Entry.Value n end → (o ≡ some n) × (k ≡ end)
 was-value none k n end e = let z : _≡_ {A = ℕ} 0 1 = cc in absurd (omega arith)
 was-value (some m) k n end e = (cc, cc)
 

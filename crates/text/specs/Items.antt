@@ -4,8 +4,6 @@ use mathlib.Core.Bool.{Bool, true, false}
 use mathlib.Core.Option.{Option, none, some}
 use Rattle.format.specs.Text.{Bytes, comma, Item, isOrdered, passing, numberOf, itemOf, _<$>_}
 use Rattle.parts.specs.Parts.{nextAt, between}
-use Rattle.text.specs.Numbers.{numberAs, entryAs}
-use Rattle.text.specs.declared.numbers.Entry.{Entry}
 use Rattle.text.specs.declared.items.Span.{Span}
 
 -- an item of a list that may hold runs, or of one that may not
@@ -22,10 +20,6 @@ spanAs (some (Item.run first last)) end = Span.Of first last end
 -- what starts at a place, up to the next comma
 abbrev pub partAt : Bytes → ℕ → Bytes
 partAt field start = between field start (nextAt comma field start)
-
--- a number
-unfoldable pub entryAt : Bytes → ℕ → Entry
-entryAt field start = entryAs (numberAs (numberOf (partAt field start))) (nextAt comma field start)
 
 -- an item
 unfoldable pub itemAt : Bool → Bytes → ℕ → Span

@@ -2,9 +2,12 @@
 ghost use mathlib.Core.Path.{_≡_};
 ghost use Prim.Native.Nat.{_≤_};
 ghost use lib.ListN.{length};
-ghost use Rattle.text.specs.Items.{entryAt, runAt, itemAt};
+ghost use Rattle.text.specs.Items.{runAt, itemAt};
 use crate::numbers::Entry;
+use crate::numbers::Number;
 use crate::numbers::number_at;
+use crate::numbers::read_number;
+use parts::find;
 
 // The first number of an item and its last, which are one for a single number, and where the item ends.
 pub(crate) enum Span {
@@ -12,31 +15,14 @@ pub(crate) enum Span {
     Bad,
 }
 
-// The number that starts at `at`, up to a comma or the end of the field.
-fn read_entry(field: &[u8], at: usize) -> Entry
-    requires { ⌜ at ≤ length (now field) ⌝ }
-    ensures { λ r. ⌜ r ≡ entryAt (now (field .entry)) at ⌝ }
-{
-    let number = number_at(field, at);
-    let Entry::Value(n, end) = number else {
-        return Entry::Bad;
-    };
-    if end == field.len() {
-        return Entry::Value(n, end);
-    }
-    if field[end] == b',' {
-        return Entry::Value(n, end);
-    }
-    Entry::Bad
-}
-
 // A run whose first number is read and whose last starts at `at`.
 fn read_run(field: &[u8], first: u32, at: usize) -> Span
     requires { ⌜ at ≤ length (now field) ⌝ }
     ensures { λ r. ⌜ r ≡ runAt first (now (field .entry)) at ⌝ }
 {
-    let entry = read_entry(field, at);
-    let Entry::Value(last, end) = entry else {
+    let end = find(field, at, b',');
+    let number = read_number(&field[at..end]);
+    let Number::Value(last) = number else {
         return Span::Bad;
     };
     if first < last {

@@ -4,6 +4,7 @@ ghost use mathlib.Core.Bool.{true, false};
 ghost use mathlib.Core.List.{List, _++_};
 ghost use mathlib.Core.Option.{some};
 ghost use Prim.Native.Nat.{ℕ, _+_, _-_, _≤_, min, max};
+ghost use lib.ListN.{set};
 ghost use Rattle.text.specs.Lists.{mostCounted, spanned, laidAt, listedAs, ListedInto, HeldList};
 use crate::items::Span;
 use crate::items::read_item;
@@ -81,8 +82,17 @@ fn capped(n: u32) -> u16
     65535
 }
 
-// The numbers from `first` to `last` are stored from a place on, as far as the table is long.
-fn store(out: &mut [u16], at: usize, first: u32, last: u32)
+// A number is stored as far as the table is long.
+fn store(out: &mut [u16], at: usize, n: u32)
+    ensures { λ r. ⌜ now (out .exit) ≡ set (now (out .entry)) at (min n 65535) ⌝ }
+{
+    if at < out.len() {
+        out[at] = capped(n);
+    }
+}
+
+// The numbers from `first` to `last`, from a place on, in the same way.
+fn store_run(out: &mut [u16], at: usize, first: u32, last: u32)
     requires { ⌜ first ≤ last ⌝ }
     ensures { λ r. ⌜ now (out .exit) ≡ laidAt (now (out .entry)) at (spanned first last) ⌝ }
 {
@@ -98,12 +108,16 @@ fn store(out: &mut [u16], at: usize, first: u32, last: u32)
     }
 }
 
-// One more item, with its numbers stored.
+// One more item, with its numbers stored. Most items are one number, which needs no loop.
 fn enter(listed: Listed, first: u32, last: u32, out: &mut [u16]) -> Listed
     requires { ⌜ (listed .count ≤ mostCounted) × (first ≤ last) ⌝ }
     ensures { λ r. ⌜ ((xs was : List ℕ) → HeldList xs was (now (out .entry)) listed → HeldList (xs ++ spanned first last) was (now (out .exit)) r) ⌝ }
 {
-    store(out, listed.count, first, last);
+    if first == last {
+        store(out, listed.count, first);
+        return entered(listed, first, first);
+    }
+    store_run(out, listed.count, first, last);
     entered(listed, first, last)
 }
 

@@ -3,7 +3,7 @@ use mathlib.Core.Path.{sym, _∙_}
 use native.Mathlib.Omega.{arith}
 use borrow.Author.Needs.{needs}
 use borrow.Author.Tests.{not-true, not-false}
-use Rattle.text.proofs.ItemLaws.{item-bad, item-last, entry-inside, item-comma, item-stray, item-no-run, item-run}
+use Rattle.text.proofs.ItemLaws.{item-bad, item-last, number-inside, item-comma, item-stray, item-no-run, item-run}
 use Rattle.text.proofs.items.read_item.Statement.{statement}
 use Rattle.text.proofs.items.read_item.Tie as tie
 
@@ -31,7 +31,7 @@ shared-slice-read-b c =
     let number = c .before .before .before in
     let called = number .before .before in
     let value = sym (called .number-at .ensures) ∙ number .number .given .1 in
-    entry-inside _ _ (called .before .before .pre) _ _ value (c .before .if1 .left)
+    number-inside _ _ (called .before .before .pre) _ _ value (c .before .if1 .left)
 
 returns-3 : tie.Need-returns-3
 returns-3 c =
@@ -60,14 +60,14 @@ add-read-run c =
     let number = c .before .before .before .before .before .before in
     let called = number .before .before in
     let value = sym (called .number-at .ensures) ∙ number .number .given .1 in
-    omega (arith, entry-inside _ _ (called .before .before .pre) _ _ value (c .before .before .before .before .if1 .left), called .before .before .good)
+    omega (arith, number-inside _ _ (called .before .before .pre) _ _ value (c .before .before .before .before .if1 .left), called .before .before .good)
 
 read-run-requires : tie.Need-read-run-requires
 read-run-requires c κs =
     let number = c .before .before .before .before .before .before in
     let called = number .before .before in
     let value = sym (called .number-at .ensures) ∙ number .number .given .1 in
-    omega (arith, entry-inside _ _ (called .before .before .pre) _ _ value (c .before .before .before .before .if1 .left))
+    omega (arith, number-inside _ _ (called .before .before .pre) _ _ value (c .before .before .before .before .if1 .left))
 
 returns-6 : tie.Need-returns-6
 returns-6 c =

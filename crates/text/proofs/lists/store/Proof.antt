@@ -1,77 +1,27 @@
--- `text::lists::store` meets its contract. The loop's invariant is `Storing`: the numbers before `n` are stored. Assumes nothing.
-use Prim.Native.Nat.{_-_}
-use mathlib.Core.Path.{refl}
-use native.Mathlib.Numerals.{lt-of-le-of-ne}
-use native.Mathlib.Omega.{arith}
+-- `text::lists::store` meets its contract: a store past the end changes nothing. Assumes nothing.
+use mathlib.Core.Path.{sym}
 use borrow.Author.Needs.{needs}
-use lib.ListN.{length}
-use Rattle.text.proofs.ListLaws.{Storing, stored-past, storing-length, stored-last, storing-more}
+use lib.Seq.{set-out}
 use Rattle.text.proofs.lists.store.Statement.{statement}
 use Rattle.text.proofs.lists.store.Tie as tie
 
-abbrev Inv-loop : tie.InvT-loop
-Inv-loop out₀ at first last place₀ n₀ out place n = Storing out₀ at first last out place n
-
-abbrev μ-loop : tie.MeasureT-loop
-μ-loop out₀ at first last place₀ n₀ out place n = length out₀ - place
-
-loop-holds : tie.Need-loop-holds Inv-loop μ-loop
-loop-holds c = record { ordered = c .before .pre; kept = refl; rest = refl }
-
-capped-requires : tie.Need-capped-requires Inv-loop μ-loop
+capped-requires : tie.Need-capped-requires
 capped-requires c κs = search needs
 
-mul-out : tie.Need-mul-out Inv-loop μ-loop
+mul-out : tie.Need-mul-out
 mul-out c = search needs
 
-slice-write-out : tie.Need-slice-write-out Inv-loop μ-loop
-slice-write-out c = c .before .loop-test .taken
+slice-write-out : tie.Need-slice-write-out
+slice-write-out c = search needs
 
-same-length : tie.Need-same-length Inv-loop μ-loop
-same-length c = storing-length _ _ _ _ _ _ _ (c .before .before .before .loop .inv) _ (c .before .capped .ensures)
+same-length : tie.Need-same-length
+same-length c = search needs
 
-returns : tie.Need-returns Inv-loop μ-loop
-returns c = stored-last _ _ _ _ _ _ _ (c .before .before .before .loop .inv) _ (c .before .capped .ensures) (c .if1 .taken)
+returns : tie.Need-returns
+returns c = cc
 
-add-n : tie.Need-add-n Inv-loop μ-loop
-add-n c =
-    let at-loop = c .before .before .before in
-    omega (arith, lt-of-le-of-ne (at-loop .loop .inv .ordered) (c .if1 .left), at-loop .before .before .fits .last)
-
-add-place : tie.Need-add-place Inv-loop μ-loop
-add-place c =
-    let at-loop = c .before .before .before in
-    omega (arith, c .before .before .loop-test .taken, at-loop .loop .inv .kept, at-loop .before .before .good)
-
-loop-less : tie.Need-loop-less Inv-loop μ-loop
-loop-less c =
-    let at-loop = c .before .before .before in
-    omega (arith, c .before .before .loop-test .taken, at-loop .loop .inv .kept)
-
-loop-again : tie.Need-loop-again Inv-loop μ-loop
-loop-again c = storing-more _ _ _ _ _ _ _ (c .before .before .before .loop .inv) _ (c .before .capped .ensures) (c .if1 .left)
-
-same-length-2 : tie.Need-same-length-2 Inv-loop μ-loop
-same-length-2 c = c .before .loop .inv .kept
-
-returns-2 : tie.Need-returns-2 Inv-loop μ-loop
-returns-2 c = stored-past _ _ _ _ _ _ _ (c .before .loop .inv) (c .loop-test .left)
+returns-2 : tie.Need-returns-2
+returns-2 c = sym (set-out _ _ _ (c .if1 .left))
 
 pub store-spec : {M : Type 1} → statement M
-store-spec =
-    tie.close
-    (tie.spec
-    Inv-loop
-    μ-loop
-    loop-holds
-    capped-requires
-    mul-out
-    slice-write-out
-    same-length
-    returns
-    add-n
-    add-place
-    loop-less
-    loop-again
-    same-length-2
-    returns-2)
+store-spec = tie.close (tie.spec capped-requires mul-out slice-write-out same-length returns returns-2)
