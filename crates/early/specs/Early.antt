@@ -1,9 +1,9 @@
 -- The tests that a row has to pass before its rule is asked, by the row as it was read and the counts of what is held.
 use Prim.Native.Nat.{ℕ, zero, suc}
-use mathlib.Core.Bool.{Bool, false, not, _&&_, _||_}
+use mathlib.Core.Bool.{Bool, false, not, _||_}
 use mathlib.Core.List.{List, [], _∷_}
 use mathlib.Core.Option.{Option, none, some}
-use lib.Dec.{eqb, ltb, leb}
+use lib.Dec.{ltb, leb}
 use Rattle.format.specs.Tables.{mostOnSide}
 use Rattle.format.specs.Tests.{Test, _when_}
 use Rattle.text.specs.declared.numbers.Optional.{Optional}
@@ -14,7 +14,7 @@ use Rattle.drafts.specs.declared.Draft.{Draft}
 
 -- some number of the list is not below `held`
 abbrev pub pastOf : Listed → ℕ → Bool
-pastOf list held = not (eqb (list .count) 0) && leb held (list .largest)
+pastOf list held = ltb held (list .above)
 
 abbrev pub aheadOf : Optional → ℕ → Bool
 aheadOf Optional.Absent held = false

@@ -19,7 +19,7 @@ use Rattle.format.proofs.Tested.{passes}
 use Rattle.format.proofs.GoodBodies.{Held, good-held}
 use Rattle.format.proofs.Formulas.{known-earlier}
 use Rattle.text.specs.Numbers.{principalAs}
-use Rattle.text.specs.Lists.{mostCounted, largest, listedAs}
+use Rattle.text.specs.Lists.{mostCounted, above, listedAs}
 use Rattle.text.specs.declared.numbers.Optional.{Optional}
 use Rattle.text.specs.declared.lists.Listed.{Listed}
 use Rattle.counts.specs.Counts.{countsOf, fullFor}
@@ -31,25 +31,16 @@ use Rattle.rows.specs.Judging.{Judging}
 use Rattle.drafts.specs.declared.Draft.{Draft}
 use Rattle.drafts.specs.Drafts.{Narrow, Drafted}
 
-leb-max : (h a b : ℕ) → leb h a || leb h b ≡ leb h (max a b)
-leb-max h a b = by-tests (leb h a) (leb h b) refl refl
-  where
-    by-tests : (s t : Bool) → leb h a ≡ s → leb h b ≡ t → s || t ≡ leb h (max a b)
-    by-tests true t e k = sym (le-leb h (max a b) (omega (arith, leb-true h a e)))
-    by-tests false true e k = sym (le-leb h (max a b) (omega (arith, leb-true h b k)))
-    by-tests false false e k = sym (lt-leb h (max a b) (omega (arith, leb-false h a e, leb-false h b k)))
-
-any-largest : (h x : ℕ) (xs : List ℕ) → any (notEarlier h) (x ∷ xs) ≡ leb h (largest (x ∷ xs))
-unfolding largest
-any-largest h x [] = let e : max x 0 ≡ x = omega arith in or-false (leb h x) ∙ ap (leb h) (sym e)
-any-largest h x (y ∷ ys) = ap (λ (t : Bool). leb h x || t) (any-largest h y ys) ∙ leb-max h x (largest (y ∷ ys))
-
--- some number of a list is not earlier exactly if its largest is not
+-- some number of a list is not earlier exactly if the least number above them all is past
 pub past-listed : (xs : List ℕ) (h : ℕ) → pastOf (listedAs (some xs)) h ≡ any (notEarlier h) xs
-past-listed [] h = refl
-past-listed (x ∷ xs) h =
-    let filled = ne-eqb (min (length (x ∷ xs)) mostCounted) 0 (λ (e : min (length (x ∷ xs)) mostCounted ≡ 0). omega arith) in
-    ap (λ (t : Bool). not t && leb h (largest (x ∷ xs))) filled ∙ sym (any-largest h x xs)
+unfolding above
+past-listed [] h = le-ltb h 0 (omega arith)
+past-listed (x ∷ xs) h = by-tests (leb h x) (any (notEarlier h) xs) refl (past-listed xs h)
+  where
+    by-tests : (s t : Bool) → leb h x ≡ s → ltb h (above xs) ≡ t → ltb h (max (x + 1) (above xs)) ≡ s || t
+    by-tests true t e k = lt-ltb h _ (omega (arith, leb-true h x e))
+    by-tests false true e k = lt-ltb h _ (omega (arith, ltb-true h (above xs) k))
+    by-tests false false e k = le-ltb h _ (omega (arith, leb-false h x e, ltb-false h (above xs) k))
 
 -- where a count stops, it passes every limit that its list passes
 ltb-alike : (most m n : ℕ) → (most < n → most < m) → (n ≤ most → m ≤ most) → ltb most m ≡ ltb most n

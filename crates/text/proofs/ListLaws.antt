@@ -15,7 +15,7 @@ use Rattle.format.specs.Text.{Bytes, comma, partsAt, each, is, Item, meantBy, u
 use Rattle.parts.specs.Refusals.{badIfNone}
 use Rattle.parts.specs.Parts.{nextAt}
 use Rattle.text.specs.Items.{itemBy, spanAs, partAt, itemAt}
-use Rattle.text.specs.Lists.{mostCounted, largest, laidOver, laidAt, spanned, listedAs, ListedInto, HeldList, listRefusal, listBy, leads, itemsAhead, entriesOf}
+use Rattle.text.specs.Lists.{mostCounted, above, laidOver, laidAt, spanned, listedAs, ListedInto, HeldList, listRefusal, listBy, leads, itemsAhead, entriesOf}
 use Rattle.text.specs.declared.items.Span.{Span}
 use Rattle.text.specs.declared.lists.Listed.{Listed}
 use Rattle.parts.proofs.PartLaws.{next-bounds, next-part, last-part, first-part}
@@ -27,10 +27,10 @@ unfolding upFrom
 length-up first zero = refl
 length-up first (suc k) = ap suc (length-up (first + 1) k)
 
-largest-up : (first k : ℕ) → largest (upFrom first (suc k)) ≡ first + k
-unfolding upFrom largest
-largest-up first zero = omega arith
-largest-up first (suc k) = omega (arith, largest-up (first + 1) k)
+above-up : (first k : ℕ) → above (upFrom first (suc k)) ≡ first + k + 1
+unfolding upFrom above
+above-up first zero = omega arith
+above-up first (suc k) = omega (arith, above-up (first + 1) k)
 
 rising-up : (first k : ℕ) → strictlyRising (upFrom first k) ≡ true
 unfolding upFrom strictlyRising
@@ -47,32 +47,33 @@ pub spanned-one : (n : ℕ) → spanned n n ≡ n ∷ []
 unfolding upFrom
 spanned-one n = let one : n + 1 - n ≡ 1 = omega arith in ap (upFrom n) one
 
-largest-spanned : (first last : ℕ) → first ≤ last → largest (spanned first last) ≡ last
-largest-spanned first last h =
+above-spanned : (first last : ℕ) → first ≤ last → above (spanned first last) ≡ last + 1
+above-spanned first last h =
     let more : last + 1 - first ≡ suc (last - first) = omega arith in
-    ap (λ k. largest (upFrom first k)) more ∙ omega (arith, largest-up first (last - first))
+    ap (λ k. above (upFrom first k)) more ∙ omega (arith, above-up first (last - first))
 
 -- ---- a list after another
 
-largest-append : (xs ys : List ℕ) → largest (xs ++ ys) ≡ max (largest xs) (largest ys)
-unfolding largest
-largest-append [] ys = omega arith
-largest-append (x ∷ xs) ys = omega (arith, largest-append xs ys)
+above-append : (xs ys : List ℕ) → above (xs ++ ys) ≡ max (above xs) (above ys)
+unfolding above
+above-append [] ys = omega arith
+above-append (x ∷ xs) ys = omega (arith, above-append xs ys)
 
 -- one that rises from above all the others
-rising-after : (xs : List ℕ) (a : ℕ) (ys : List ℕ) → strictlyRising (a ∷ ys) ≡ true → largest xs < a → strictlyRising (xs ++ a ∷ ys) ≡ strictlyRising xs
-unfolding largest strictlyRising
+rising-after : (xs : List ℕ) (a : ℕ) (ys : List ℕ) → strictlyRising (a ∷ ys) ≡ true → above xs ≤ a → strictlyRising (xs ++ a ∷ ys) ≡ strictlyRising xs
+unfolding above strictlyRising
 rising-after [] a ys r h = r
 rising-after (i ∷ []) a ys r h = rw (lt-ltb i a (omega arith)) r
 rising-after (i ∷ j ∷ js) a ys r h = ap (λ t. ltb i j && t) (rising-after (j ∷ js) a ys r (omega arith))
 
 -- one that does not start above them
-not-rising-after : (i : ℕ) (xs : List ℕ) (a : ℕ) (ys : List ℕ) → a ≤ largest (i ∷ xs) → strictlyRising ((i ∷ xs) ++ a ∷ ys) ≡ false
-unfolding largest strictlyRising
-not-rising-after i [] a ys h = rw (le-ltb i a (omega arith))
-not-rising-after i (j ∷ js) a ys h = by-test (ltb i j) refl (not-rising-after j js a ys)
+not-rising-after : (xs : List ℕ) (a : ℕ) (ys : List ℕ) → a < above xs → strictlyRising (xs ++ a ∷ ys) ≡ false
+unfolding above strictlyRising
+not-rising-after [] a ys h = absurd (omega arith)
+not-rising-after (i ∷ []) a ys h = rw (le-ltb i a (omega arith))
+not-rising-after (i ∷ j ∷ js) a ys h = by-test (ltb i j) refl (not-rising-after (j ∷ js) a ys)
   where
-    by-test : (t : Bool) → ltb i j ≡ t → (a ≤ largest (j ∷ js) → strictlyRising ((j ∷ js) ++ a ∷ ys) ≡ false)
+    by-test : (t : Bool) → ltb i j ≡ t → (a < above (j ∷ js) → strictlyRising ((j ∷ js) ++ a ∷ ys) ≡ false)
         → t && strictlyRising ((j ∷ js) ++ a ∷ ys) ≡ false
     by-test true e rest = rest (omega (arith, ltb-true i j e))
     by-test false e rest = refl
@@ -80,7 +81,7 @@ not-rising-after i (j ∷ js) a ys h = by-test (ltb i j) refl (not-rising-after 
 -- ---- what is known of a list
 
 abbrev pub listing : ℕ → ℕ → Bool → Listed
-listing count top rising = record { well = true; count = count; largest = top; rising = rising }
+listing count past rising = record { well = true; count = count; above = past; rising = rising }
 
 same-listing : {c c′ l l′ : ℕ} {r r′ : Bool} → c ≡ c′ → l ≡ l′ → r ≡ r′ → listing c l r ≡ listing c′ l′ r′
 same-listing p q s = cc
@@ -93,31 +94,24 @@ module _ (first last : ℕ) (ordered : first ≤ last) (listed : Listed) (count 
   counted-up xs e =
       omega (arith, added, listed-count listed xs e, length-append xs (spanned first last), length-up first (last + 1 - first))
 
-  largest-with : (xs : List ℕ) → largest (xs ++ spanned first last) ≡ max (largest xs) last
-  largest-with xs = largest-append xs (spanned first last) ∙ ap (max (largest xs)) (largest-spanned first last ordered)
+  above-with : (xs : List ℕ) → above (xs ++ spanned first last) ≡ max (above xs) (last + 1)
+  above-with xs = above-append xs (spanned first last) ∙ ap (max (above xs)) (above-spanned first last ordered)
 
-  pub entered-above : (xs : List ℕ) → listed ≡ listedAs (some xs) → listed .largest < first
-      → listing count last (listed .rising) ≡ listedAs (some (xs ++ spanned first last))
-  entered-above xs e h =
-      let below : largest xs < first = omega (arith, ap (λ l. l .largest) e) in
-      let cons = spanned-cons first last ordered in
-      let rises = sym (ap strictlyRising cons) ∙ rising-up first (last + 1 - first) in
-      same-listing (counted-up xs e) (omega (arith, largest-with xs))
-      (ap (λ l. l .rising) e ∙ sym (ap (λ l. strictlyRising (xs ++ l)) cons ∙ rising-after xs first _ rises below))
+  module _ (xs : List ℕ) (e : listed ≡ listedAs (some xs)) where
+    pub entered-above : listed .above ≤ first → listing count (last + 1) (listed .rising) ≡ listedAs (some (xs ++ spanned first last))
+    entered-above h =
+        let below : above xs ≤ first = omega (arith, ap (λ l. l .above) e) in
+        let cons = spanned-cons first last ordered in
+        let rises = sym (ap strictlyRising cons) ∙ rising-up first (last + 1 - first) in
+        same-listing (counted-up xs e) (omega (arith, above-with xs))
+        (ap (λ l. l .rising) e ∙ sym (ap (λ l. strictlyRising (xs ++ l)) cons ∙ rising-after xs first _ rises below))
 
-  pub entered-first : (xs : List ℕ) → listed ≡ listedAs (some xs) → listed .count ≡ 0
-      → listing count last true ≡ listedAs (some (xs ++ spanned first last))
-  unfolding largest
-  entered-first [] e h = same-listing (counted-up [] e) (omega (arith, largest-with [])) (sym (rising-up first (last + 1 - first)))
-  entered-first (x ∷ xs) e h = absurd (omega (arith, listed-count listed (x ∷ xs) e))
-
-  pub entered-below : (xs : List ℕ) → listed ≡ listedAs (some xs) → (listed .count ≡ 0 → ⊥) → first ≤ listed .largest
-      → (top : ℕ) → top ≡ max (listed .largest) last → listing count top false ≡ listedAs (some (xs ++ spanned first last))
-  entered-below [] e filled h top t = absurd (filled (listed-count listed [] e))
-  entered-below (x ∷ xs) e filled h top t =
-      let at-most : first ≤ largest (x ∷ xs) = omega (arith, ap (λ l. l .largest) e) in
-      same-listing (counted-up (x ∷ xs) e) (t ∙ ap (λ l. max (l .largest) last) e ∙ sym (largest-with (x ∷ xs)))
-      (sym (ap (λ l. strictlyRising ((x ∷ xs) ++ l)) (spanned-cons first last ordered) ∙ not-rising-after x xs first _ at-most))
+    pub entered-below : first < listed .above → (past : ℕ) → past ≡ max (listed .above) (last + 1)
+        → listing count past false ≡ listedAs (some (xs ++ spanned first last))
+    entered-below h past is-past =
+        let before : first < above xs = omega (arith, ap (λ l. l .above) e) in
+        same-listing (counted-up xs e) (is-past ∙ ap (λ l. max (l .above) (last + 1)) e ∙ sym (above-with xs))
+        (sym (ap (λ l. strictlyRising (xs ++ l)) (spanned-cons first last ordered) ∙ not-rising-after xs first _ before))
 
 -- ---- what is stored
 

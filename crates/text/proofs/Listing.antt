@@ -13,7 +13,7 @@ use Rattle.parts.specs.Refusals.{badIfNone}
 use Rattle.parts.specs.Parts.{nextAt}
 use Rattle.parts.proofs.PartLaws.{next-bounds, next-part, last-part, first-part}
 use Rattle.text.specs.Items.{itemBy, partAt, itemAt}
-use Rattle.text.specs.Lists.{mostCounted, largest, laidOver, spanned, listedAs, ListedInto, HeldList, listRefusal, listBy, leads, itemsAhead, entriesOf}
+use Rattle.text.specs.Lists.{mostCounted, above, laidOver, spanned, listedAs, ListedInto, HeldList, listRefusal, listBy, leads, itemsAhead, entriesOf}
 use Rattle.text.specs.declared.items.Span.{Span}
 use Rattle.text.specs.declared.lists.Listed.{Listed}
 use Rattle.text.proofs.ItemLaws.{was-span, was-no-span, span-ordered}
@@ -72,7 +72,7 @@ list-refusal none = refl
 list-refusal (some xs) = refl
 
 pub listing-none : (runs : Bool) (field was : List ℕ) → is "-" field ≡ false → Listing runs field was was (listing 0 0 true) 0
-unfolding entriesOf laidOver largest strictlyRising
+unfolding entriesOf laidOver above strictlyRising
 listing-none runs field was e =
     record {
       entries = [];
@@ -83,7 +83,7 @@ listing-none runs field was e =
     }
 
 pub listed-none : (runs : Bool) (field was : List ℕ) → is "-" field ≡ true → ListedInto runs field was was (listing 0 0 true)
-unfolding entriesOf laidOver largest strictlyRising
+unfolding entriesOf laidOver above strictlyRising
 listed-none runs field was e =
     let none-there = list-none runs field e in
     record {

@@ -14,10 +14,10 @@ use Rattle.text.specs.declared.lists.Listed.{Listed}
 abbrev pub mostCounted : ℕ
 mostCounted = 9223372036854775808
 
--- the largest of some numbers; 0 of none
-unfoldable pub largest : List ℕ → ℕ
-largest [] = 0
-largest (x ∷ xs) = max x (largest xs)
+-- the least number above some numbers; 0 of none
+unfoldable pub above : List ℕ → ℕ
+above [] = 0
+above (x ∷ xs) = max (x + 1) (above xs)
 
 -- numbers in the place of a table's first entries, as far as it is long; one that is over 65,535 as 65,535
 unfoldable pub laidOver : List ℕ → List ℕ → List ℕ
@@ -26,8 +26,8 @@ laidOver (x ∷ xs) [] = []
 laidOver (x ∷ xs) (o ∷ out) = min x 65535 ∷ laidOver xs out
 
 abbrev pub listedAs : Option (List ℕ) → Listed
-listedAs none = record { well = false; count = 0; largest = 0; rising = false }
-listedAs (some xs) = record { well = true; count = min (length xs) mostCounted; largest = largest xs; rising = strictlyRising xs }
+listedAs none = record { well = false; count = 0; above = 0; rising = false }
+listedAs (some xs) = record { well = true; count = min (length xs) mostCounted; above = above xs; rising = strictlyRising xs }
 
 -- the refusal number of an answer
 abbrev pub listRefusal : Listed → Option ℕ

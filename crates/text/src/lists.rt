@@ -13,12 +13,12 @@ use parts::is_dash;
 // A count stops here. No slice is as long.
 const MOST_COUNTED: usize = 9223372036854775808;
 
-// What is known of a list: whether it is well written; and if it is, how many entries it has, written out, the largest (0 if there
-// is none), and whether they rise strictly. Of a badly written list all is 0 and false.
+// What is known of a list: whether it is well written; and if it is, how many entries it has, written out, the least number above
+// them all (0 if there is none), and whether they rise strictly. Of a badly written list all is 0 and false.
 pub struct Listed {
     pub well: bool,
     pub count: usize,
-    pub largest: u32,
+    pub above: usize,
     pub rising: bool,
 }
 
@@ -34,43 +34,36 @@ fn counted(count: usize, first: u32, last: u32) -> usize
     MOST_COUNTED
 }
 
-// What is known of a list after the numbers from `first` to `last`. Where a list rises, its largest entry is its last.
-fn entered(listed: Listed, first: u32, last: u32) -> Listed
-    requires { ⌜ (listed .count ≤ mostCounted) × (first ≤ last) ⌝ }
-    ensures { λ r. ⌜ ((xs : List ℕ) → listed ≡ listedAs (some xs) → r ≡ listedAs (some (xs ++ spanned first last))) ⌝ }
-{
-    let count = counted(listed.count, first, last);
-    if listed.count == 0 {
-        return Listed {
-            well: true,
-            count,
-            largest: last,
-            rising: true,
-        };
-    }
-    if listed.largest < first {
-        return Listed {
-            well: true,
-            count,
-            largest: last,
-            rising: listed.rising,
-        };
-    }
-    Listed {
-        well: true,
-        count,
-        largest: larger(listed.largest, last),
-        rising: false,
-    }
-}
-
-fn larger(m: u32, n: u32) -> u32
+fn larger(m: usize, n: usize) -> usize
     ensures { λ r. ⌜ r ≡ max m n ⌝ }
 {
     if m < n {
         return n;
     }
     m
+}
+
+// What is known of a list after the numbers from `first` to `last`.
+fn entered(listed: Listed, first: u32, last: u32) -> Listed
+    requires { ⌜ (listed .count ≤ mostCounted) × (first ≤ last) ⌝ }
+    ensures { λ r. ⌜ ((xs : List ℕ) → listed ≡ listedAs (some xs) → r ≡ listedAs (some (xs ++ spanned first last))) ⌝ }
+{
+    let count = counted(listed.count, first, last);
+    let past = last as usize + 1;
+    if listed.above <= first as usize {
+        return Listed {
+            well: true,
+            count,
+            above: past,
+            rising: listed.rising,
+        };
+    }
+    Listed {
+        well: true,
+        count,
+        above: larger(listed.above, past),
+        rising: false,
+    }
 }
 
 fn capped(n: u32) -> u16
@@ -129,7 +122,7 @@ fn read_items(field: &[u8], runs: bool, out: &mut [u16]) -> Listed
     let mut listed = Listed {
         well: true,
         count: 0,
-        largest: 0,
+        above: 0,
         rising: true,
     };
     if is_dash(field) {
@@ -142,7 +135,7 @@ fn read_items(field: &[u8], runs: bool, out: &mut [u16]) -> Listed
             return Listed {
                 well: false,
                 count: 0,
-                largest: 0,
+                above: 0,
                 rising: false,
             };
         };

@@ -63,8 +63,8 @@ fn show_principal(field: &[u8]) {
 fn put_listed(listed: Listed, out: [u16; 2]) {
     if listed.well {
         put_decimal(listed.count as u64);
-        put(b" entries, largest ");
-        put_decimal(listed.largest as u64);
+        put(b" entries, all below ");
+        put_decimal(listed.above as u64);
         put(b", rising ");
         put_bool(listed.rising);
         put(b", stored ");
