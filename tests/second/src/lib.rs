@@ -11,6 +11,7 @@ pub mod generate;
 pub mod instance;
 pub mod judge;
 pub mod line;
+pub mod list;
 pub mod mutate;
 pub mod notation;
 pub mod prove;
