@@ -17,6 +17,7 @@ pub mod notation;
 pub mod prove;
 pub mod random;
 pub mod reading;
+pub mod rewrite;
 pub mod rules;
 pub mod sample;
 pub mod semantics;
