@@ -137,8 +137,12 @@ fn pools_that_end(pool: Pool) -> Vec<Case> {
     last_row("passed_by_the_last_of_2", 5, most - 1, "0-1");
     last_row("passed_by_all_of_a_run", 5, most, "0-1");
     last_row("passed_by_a_number_after_a_run", 5, most - 2, "0-1,2");
+    last_row("passed_by_a_65th", 5, most - 64, "0-64");
+    last_row("passed_by_a_missing_65th", 5, most - 64, "0-63,65");
     last_row("passed_by_a_repeat", 5, most - 64, "0-63,0");
     last_row("passed_by_99999", 5, most - 64, "0-99999");
+    last_row("filled_by_a_65th", 9, most - 65, "0-64");
+    last_row("filled_by_a_missing_65th", 7, most - 65, "0-63,65");
     last_row("filled_by_a_repeat", 9, most - 65, "0-63,0");
     last_row("filled_by_a_run_of_missing_ones", 7, most - 2, "65-66");
 
@@ -164,6 +168,9 @@ fn models() -> Vec<Case> {
     };
     let models = [
         ("16_atoms_by_two_runs", 0, of(0..16, "0-7,8-15")),
+        ("17_atoms", 16, of(0..17, "0-16")),
+        ("17_last_atoms", 16, of(47..64, "47-63")),
+        ("64_atoms", 16, of(63..64, "0-63")),
         ("atoms_62_and_63", 0, of(62..64, "62-63")),
         ("atoms_63_and_64", 7, of(62..64, "63-64")),
         ("atoms_64_and_65", 7, of(62..64, "64-65")),
@@ -182,8 +189,8 @@ fn shortest(text: &str) -> String {
     String::from_utf8(in_runs(text.as_bytes()).expect("no text grows by it")).expect("a text of ASCII")
 }
 
-/// The texts of other groups that have lists to be written in runs, so written, unless
-/// they stand there: nothing is answered or told otherwise.
+/// The accepted texts of other groups that have lists to be written in runs, so written,
+/// unless they stand there: nothing is answered, stored or told otherwise.
 pub fn rewritten(cases: &[Case]) -> Vec<Case> {
     const GROUPS: [&str; 6] = ["examples", "look_sound", "limits", "models", "sides", "words"];
     let held: HashSet<&[u8]> = cases.iter().map(|case| case.text.as_slice()).collect();
@@ -192,6 +199,6 @@ pub fn rewritten(cases: &[Case]) -> Vec<Case> {
         let name = format!("runs/{}", case.name.replace('/', "_"));
         Some(Case { name, text, plain: Some(case.name.clone()), ..case.clone() })
     };
-    let within = |case: &&Case| GROUPS.contains(&case.group()) && case.text.len() <= MOST_BYTES;
-    cases.iter().filter(within).filter_map(rewritten).collect()
+    let accepted = |case: &&Case| GROUPS.contains(&case.group()) && case.number == 0;
+    cases.iter().filter(accepted).filter_map(rewritten).collect()
 }
