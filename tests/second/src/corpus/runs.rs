@@ -78,34 +78,25 @@ pub fn cases() -> Vec<Case> {
         tabbed(HEAD) + &format!("N\t0\tsame\t1\t-\t{list}\t{list}\nM\t{list}\nC\t{list}\t{list}\n")
     };
     let same_as = |plain: &str, case: Case| Case { plain: Some(format!("runs/{plain}")), ..case };
+    let gap = raw("runs/everywhere_a_run_before_a_gap", 0, 11, everywhere("0-1,3"));
     let mut cases = vec![
         raw("runs/none", 0, 11, everywhere(WHOLE)),
         raw("runs/none_with_a_gap", 0, 11, everywhere("0,1,3")),
+        same_as("none_with_a_gap", gap),
     ];
-    cases.push(same_as(
-        "none_with_a_gap",
-        raw("runs/everywhere_a_run_before_a_gap", 0, 11, everywhere("0-1,3")),
-    ));
     for (what, list) in WRITINGS {
         cases.push(same_as("none", raw(&format!("runs/everywhere_{what}"), 0, 11, everywhere(list))));
         let case = |place: Place| raw(&format!("runs/{}_{what}", place.name()), 0, 11, place.file(list));
         cases.extend(PLACES.map(|place| same_as("none", case(place))));
     }
-    for (what, list) in BADLY_WRITTEN {
-        for place in PLACES {
-            let name = format!("runs/{}_{what}", place.name());
-            let (text, line) = place.out_of_order(list);
-            cases.push(raw(&name, 3, place.line(), place.file(list)));
-            cases.push(raw(&format!("{name}_and_4"), 3, line, text));
-        }
-    }
-    for (what, list, in_row, elsewhere) in REFUSED {
+    let badly_written = BADLY_WRITTEN.map(|(what, list)| (what, list, 3, 3));
+    for (what, list, in_row, elsewhere) in badly_written.into_iter().chain(REFUSED) {
         for place in PLACES {
             let name = format!("runs/{}_{what}", place.name());
             let number = if place.in_row() { in_row } else { elsewhere };
-            let (text, line) = place.out_of_order(list);
             cases.push(raw(&name, number, place.line(), place.file(list)));
-            cases.push(raw(&format!("{name}_and_4"), 4, line, text));
+            let (text, line) = place.out_of_order(list);
+            cases.push(raw(&format!("{name}_and_4"), number.min(4), line, text));
         }
     }
     for &(name, number, line, lines) in ELSEWHERE {
@@ -130,7 +121,7 @@ const WRITINGS: [(&str, &str); 7] = [
     ("run_after_numbers", "0,1,2-3"),
 ];
 
-const BADLY_WRITTEN: [(&str, &str); 31] = [
+const BADLY_WRITTEN: [(&str, &str); 34] = [
     ("first_is_last_0", "0-0"),
     ("first_is_last_1", "1-1"),
     ("first_is_last_after_a_number", "0,1-1"),
@@ -158,9 +149,12 @@ const BADLY_WRITTEN: [(&str, &str); 31] = [
     ("two_commas", "0-1,,2-3"),
     ("last_of_six_digits", "0-100000"),
     ("first_of_six_digits", "100000-100001"),
-    ("last_of_four_zeros_and_a_digit", "0-000003"),
+    ("last_of_four_zeros_and_a_digit", "0-00003"),
     ("space_after_the_dash", "0- 3"),
     ("letter_as_last", "0-s"),
+    ("zero_byte_before_the_dash", "0\0-3"),
+    ("cr_at_the_end", "0-3\r"),
+    ("dash_that_is_no_hyphen", "0\u{2013}3"),
     ("two_dots", "0..3"),
 ];
 
