@@ -146,13 +146,30 @@ static inline bool read_dash(const uint8_t **at, uint8_t stop) {
     return *(*at)++ == '-' && *(*at)++ == stop;
 }
 
+/* What a list means, runs written out. A text has room for 8,191 runs of 100,000 numbers, so that no count wraps. */
 struct list {
     uint32_t count, largest;
     bool rising;
 };
 
+/* The rest of a run, whose first number is read. */
+static inline bool read_run(const uint8_t **at, uint32_t first, uint16_t *entries, uint32_t room, struct list *list) {
+    uint32_t last;
+    if (!digits(at, &last) || last <= first)
+        return false;
+    uint32_t count = list->count + (last - first), stored = count < room ? count : room;
+    for (uint32_t i = list->count; i < stored; i++)
+        entries[i] = (uint16_t)(first + 1 + (i - list->count));
+    list->count = count;
+    if (list->largest < last)
+        list->largest = last;
+    return true;
+}
+
+enum items { NUMBERS, NUMBERS_AND_RUNS };
+
 /* The entries are stored as far as there is room. */
-static inline bool read_list(const uint8_t **at, uint8_t stop, uint16_t *entries, uint32_t room, struct list *list) {
+static inline bool read_list(const uint8_t **at, uint8_t stop, enum items items, uint16_t *entries, uint32_t room, struct list *list) {
     *list = (struct list){0, 0, true};
     if (**at == '-')
         return read_dash(at, stop);
@@ -168,6 +185,11 @@ static inline bool read_list(const uint8_t **at, uint8_t stop, uint16_t *entries
             list->largest = number;
         list->count++;
         uint8_t after = *(*at)++;
+        if (after == '-' && items == NUMBERS_AND_RUNS) {
+            if (!read_run(at, number, entries, room, list))
+                return false;
+            after = *(*at)++;
+        }
         if (after == stop)
             return true;
         if (after != ',')
@@ -609,9 +631,9 @@ static uint32_t row_line(struct checker *c, const uint8_t **at) {
         return BAD_LINE;
     uint16_t above[2] = {ABSENT, ABSENT};
     struct list premises, left, right;
-    if (!read_list(at, '\t', above, 2, &premises)
-        || !read_list(at, '\t', c->left + c->left_used, ENTRIES - c->left_used, &left)
-        || !read_list(at, '\n', c->right + c->right_used, ENTRIES - c->right_used, &right))
+    if (!read_list(at, '\t', NUMBERS, above, 2, &premises)
+        || !read_list(at, '\t', NUMBERS_AND_RUNS, c->left + c->left_used, ENTRIES - c->left_used, &left)
+        || !read_list(at, '\n', NUMBERS_AND_RUNS, c->right + c->right_used, ENTRIES - c->right_used, &right))
         return BAD_LINE;
     if (c->stage > 2 || number != c->row_count)
         return OUT_OF_ORDER;
@@ -643,7 +665,7 @@ static uint32_t row_line(struct checker *c, const uint8_t **at) {
 static uint32_t model_line(struct checker *c, const uint8_t **at) {
     uint16_t atoms[ATOMS];
     struct list list;
-    if (!read_list(at, '\n', atoms, ATOMS, &list))
+    if (!read_list(at, '\n', NUMBERS_AND_RUNS, atoms, ATOMS, &list))
         return BAD_LINE;
     if (c->stage > 2)
         return OUT_OF_ORDER;
@@ -761,7 +783,8 @@ static uint32_t judge_model(const struct checker *c, struct side left, struct si
 static uint32_t claim_line(struct checker *c, const uint8_t **at) {
     uint16_t left_entries[ON_SIDE], right_entries[ON_SIDE];
     struct list left, right;
-    if (!read_list(at, '\t', left_entries, ON_SIDE, &left) || !read_list(at, '\n', right_entries, ON_SIDE, &right))
+    if (!read_list(at, '\t', NUMBERS_AND_RUNS, left_entries, ON_SIDE, &left)
+        || !read_list(at, '\n', NUMBERS_AND_RUNS, right_entries, ON_SIDE, &right))
         return BAD_LINE;
     if (c->stage > 3)
         return OUT_OF_ORDER;

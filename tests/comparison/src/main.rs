@@ -1,6 +1,7 @@
 //! `comparison SEED COUNT` judges random texts with the proved library, through its C
 //! entries, and with the second checker. Number, line, every entry of every table and
-//! every byte of the words must be the same.
+//! every byte of the words must be the same; and so must they be where the lists of a text
+//! are written with other runs.
 
 use second::fuzz::MOST_READ;
 use second::judge::{Derivation, Judgement, LEAST, Tables, judge};
@@ -53,11 +54,20 @@ unsafe extern "C" {
 fn main() -> ExitCode {
     let mut random = Random::new(std::env::args().nth(1).and_then(|seed| seed.parse().ok()).unwrap_or(0));
     second::fuzz::command(|sample, judgement, derivation| {
-        same_check(sample, judgement)?;
-        same_judgement(sample, judgement)?;
-        for space in spaces(&mut random, derivation) {
-            same_words(sample, &words::answer(judgement, derivation, space))
+        let Sample { text, rewritten, lent, .. } = sample;
+        same_check(text, judgement)?;
+        same_judgement(text, lent, judgement)?;
+        let spaces = spaces(&mut random, derivation);
+        for &space in &spaces {
+            same_words(text, lent, &words::answer(judgement, derivation, space))
                 .map_err(|what| format!("{what} where {space} bytes are lent"))?;
+        }
+        if let Some(rewritten) = rewritten {
+            let space = random.pick(&spaces);
+            same_check(rewritten, judgement)
+                .and_then(|()| same_judgement(rewritten, lent, judgement))
+                .and_then(|()| same_words(rewritten, lent, &words::answer(judgement, derivation, space)))
+                .map_err(|what| format!("{what} in another writing"))?;
         }
         Ok(())
     })
@@ -78,8 +88,7 @@ fn spaces(random: &mut Random, derivation: Option<&Derivation>) -> Vec<usize> {
 
 /// Compares `elk_check`, which has tables of its own: what is lent to the other entries is
 /// no matter to it.
-fn same_check(sample: &Sample, judgement: &Judgement) -> Result<(), String> {
-    let text = &sample.text;
+fn same_check(text: &[u8], judgement: &Judgement) -> Result<(), String> {
     // SAFETY: the bytes are readable.
     let answer = unsafe { elk_check(text.as_ptr(), text.len()) };
     match judgement.number {
@@ -92,8 +101,7 @@ fn same_check(sample: &Sample, judgement: &Judgement) -> Result<(), String> {
 }
 
 /// Compares `elk_judge` in tables where every entry is wrong before the call.
-fn same_judgement(sample: &Sample, judgement: &Judgement) -> Result<(), String> {
-    let text = &sample.text;
+fn same_judgement(text: &[u8], lent: &Tables<usize>, judgement: &Judgement) -> Result<(), String> {
     let mut memory = judgement.tables.clone().map(|table| wrong_and_guarded(&table));
     let Tables { names, formulas, rows, left, right } = &mut memory;
     // SAFETY: the bytes are readable, and each table has its length and a guard beyond.
@@ -102,15 +110,15 @@ fn same_judgement(sample: &Sample, judgement: &Judgement) -> Result<(), String> 
             text.as_ptr(),
             text.len(),
             names.as_mut_ptr(),
-            sample.lent.names,
+            lent.names,
             formulas.as_mut_ptr(),
-            sample.lent.formulas,
+            lent.formulas,
             rows.as_mut_ptr(),
-            sample.lent.rows,
+            lent.rows,
             left.as_mut_ptr(),
-            sample.lent.left,
+            lent.left,
             right.as_mut_ptr(),
-            sample.lent.right,
+            lent.right,
         )
     };
     same_answer("elk_judge", answer, judgement.number, judgement.line)?;
@@ -119,8 +127,7 @@ fn same_judgement(sample: &Sample, judgement: &Judgement) -> Result<(), String> 
 
 /// Compares `elk_words` in tables and a lent text where every entry is wrong before the
 /// call.
-fn same_words(sample: &Sample, expected: &Expected) -> Result<(), String> {
-    let text = &sample.text;
+fn same_words(text: &[u8], lent: &Tables<usize>, expected: &Expected) -> Result<(), String> {
     let mut memory = expected.tables.clone().map(|table| wrong_and_guarded(&table));
     let mut told: Vec<u8> = expected.words.iter().map(|&byte| !byte).chain(BYTE_GUARD).collect();
     let Tables { names, formulas, rows, left, right } = &mut memory;
@@ -131,15 +138,15 @@ fn same_words(sample: &Sample, expected: &Expected) -> Result<(), String> {
             text.as_ptr(),
             text.len(),
             names.as_mut_ptr(),
-            sample.lent.names,
+            lent.names,
             formulas.as_mut_ptr(),
-            sample.lent.formulas,
+            lent.formulas,
             rows.as_mut_ptr(),
-            sample.lent.rows,
+            lent.rows,
             left.as_mut_ptr(),
-            sample.lent.left,
+            lent.left,
             right.as_mut_ptr(),
-            sample.lent.right,
+            lent.right,
             told.as_mut_ptr(),
             expected.words.len(),
         )

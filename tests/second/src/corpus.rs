@@ -10,6 +10,8 @@ mod models;
 mod numbers;
 mod pairs;
 mod rows;
+mod run_limits;
+mod runs;
 mod steps;
 mod texts;
 mod words;
@@ -26,6 +28,8 @@ pub struct Case {
     pub number: u16,
     pub line: usize,
     pub words: Option<Vec<u8>>,
+    /// The case that is the same but for runs: all that is answered, stored and told is equal.
+    pub plain: Option<String>,
 }
 
 impl Case {
@@ -46,8 +50,11 @@ pub fn cases() -> Vec<Case> {
         steps::cases(),
         families::cases(),
         words::cases(),
+        runs::cases(),
+        run_limits::cases(),
     ];
     let mut cases = groups.concat();
+    cases.extend(run_limits::rewritten(&cases));
     cases.sort_by(|a, b| a.name.cmp(&b.name));
     cases
 }
@@ -57,12 +64,15 @@ pub fn files() -> BTreeMap<String, Vec<u8>> {
     let cases = cases();
     let answer = |case: &Case| format!("{}\t{}\t{}\n", case.name, case.number, case.line);
     let answers: String = cases.iter().map(answer).collect();
+    let pair = |case: &Case| case.plain.as_ref().map(|plain| format!("{}\t{plain}\n", case.name));
+    let pairs: String = cases.iter().filter_map(pair).collect();
     let of_case = |case: Case| {
         let words = case.words.map(|words| (format!("{}.words", case.name), words));
         [(format!("{}.txt", case.name), case.text)].into_iter().chain(words)
     };
     let texts = cases.into_iter().flat_map(of_case);
-    texts.chain([("answers.tsv".into(), answers.into_bytes())]).collect()
+    let lists = [("answers.tsv", answers), ("plain.tsv", pairs)];
+    texts.chain(lists.map(|(name, list)| (name.into(), list.into_bytes()))).collect()
 }
 
 /// Writes the corpus into a folder.
@@ -77,7 +87,7 @@ pub fn write(folder: &Path) -> std::io::Result<()> {
 
 /// A case written out byte by byte.
 fn raw(name: &str, number: u16, line: usize, text: impl Into<Vec<u8>>) -> Case {
-    Case { name: name.into(), text: text.into(), number, line, words: None }
+    Case { name: name.into(), text: text.into(), number, line, words: None, plain: None }
 }
 
 /// A refused case, whose number and line are printed in the place of its words too.
@@ -99,7 +109,8 @@ fn tabbed(lines: &str) -> String {
 #[cfg(test)]
 mod tests {
     use super::*;
-    use crate::judge::{Deciding, LEAST, judge_closely};
+    use crate::judge::{Deciding, LEAST, judge, judge_closely};
+    use crate::rewrite;
     use std::cell::Cell;
     use std::collections::BTreeSet;
 
@@ -128,6 +139,24 @@ mod tests {
         };
         let different: Vec<String> = cases().iter().filter_map(differs).collect();
         assert!(different.is_empty(), "{different:#?}");
+    }
+
+    #[test]
+    fn runs_change_nothing() {
+        let cases = cases();
+        let texts: BTreeMap<&str, &[u8]> =
+            cases.iter().map(|case| (case.name.as_str(), case.text.as_slice())).collect();
+        for case in &cases {
+            if let Some(plain) = &case.plain {
+                assert_eq!(
+                    rewrite::in_runs(&case.text),
+                    rewrite::in_runs(texts[plain.as_str()]),
+                    "{}",
+                    case.name
+                );
+                assert!(judge(&case.text, &LEAST) == judge(texts[plain.as_str()], &LEAST), "{}", case.name);
+            }
+        }
     }
 
     #[test]

@@ -3,13 +3,15 @@
 //! Every text is judged by set algebra and by search; what is accepted must be true
 //! in the brute-force semantics, row by row, and its model be one there, or the left have
 //! none where there is no model; its tables must give the text back, and its words the
-//! rows; and an answer that is known beforehand must be given.
+//! rows; an answer that is known beforehand must be given; and another writing of the same
+//! lists must change nothing.
 
 use crate::draft::{atom_list, list};
 use crate::formula::{Atoms, Formulas, Node};
 use crate::judge::{Deciding, Derivation, Judgement, Refusal, judge, judge_closely};
 use crate::line::{self, Line};
 use crate::reading;
+use crate::rewrite::in_runs;
 use crate::rules::ELK;
 use crate::sample::{Sample, samples};
 use crate::semantics::Interpretations;
@@ -37,6 +39,8 @@ struct Report {
     claims_too_large: usize,
     words_read: usize,
     words_too_long: usize,
+    rewritten: usize,
+    rewritten_accepted: usize,
     rows_by_words: HashMap<u64, u64>,
 }
 
@@ -98,7 +102,7 @@ fn keep(text: &[u8], seed: u64, index: usize) -> PathBuf {
 
 impl Report {
     fn check(&mut self, sample: &Sample) -> Result<(Judgement, Option<Derivation>), String> {
-        let Sample { text, lent, answer } = sample;
+        let Sample { text, rewritten, lent, answer } = sample;
         let (judgement, derivation) = judge_closely(text, lent, Deciding::Compared(&self.rows_compared));
         self.count(text, &judgement);
         if judgement != judge(text, lent) {
@@ -108,9 +112,16 @@ impl Report {
         if answer.is_some_and(|known| known != given) {
             return Err(format!("{given:?} is answered for {answer:?}"));
         }
+        if let Some(rewritten) = rewritten {
+            if judge(rewritten, lent) != judgement {
+                return Err("another answer, or other tables, in another writing".into());
+            }
+            self.rewritten += 1;
+            self.rewritten_accepted += usize::from(derivation.is_some());
+        }
         match &derivation {
             Some(derivation) => {
-                if rebuilt(text, &judgement, derivation.model) != *text {
+                if in_runs(&rebuilt(text, &judgement, derivation.model)) != in_runs(text) {
                     return Err("tables that give another text".into());
                 }
                 self.value(derivation)?;
@@ -234,8 +245,8 @@ fn used_records(table: &[u16], used: usize, width: usize) -> impl Iterator<Item 
     table[..used].chunks(width)
 }
 
-/// The text that the tables of an accepted text stand for, with the model, which they
-/// don't hold; the claim is the last row's, and each number and list has one writing.
+/// The text that the tables of an accepted text stand for, in plain lists, with the model,
+/// which they don't hold; the claim is the last row's.
 fn rebuilt(text: &[u8], judgement: &Judgement, model: Option<Atoms>) -> Vec<u8> {
     const WORDS: [&str; 6] = ["bot", "atom", "not", "and", "or", "imp"];
     let Judgement { tables, used, .. } = judgement;
@@ -297,6 +308,8 @@ impl fmt::Display for Report {
             "{read} accepted texts have words that read back as their rows, {different} of them different; \
             {too_long} have words that are too long for it"
         )?;
+        let (rewritten, accepted) = (self.rewritten, self.rewritten_accepted);
+        writeln!(f, "{rewritten} texts are answered alike with other runs, {accepted} of them accepted")?;
         write!(f, "{} passed, {} failed", self.passed, self.failed)
     }
 }
@@ -311,6 +324,7 @@ mod tests {
         let report = run(7, 4_000, |_, _, _| Ok(()));
         assert_eq!(report.failed, 0);
         assert!(report.words_read > 100 && report.words_too_long > 0, "{report}");
+        assert!(report.rewritten > 1_000 && report.rewritten_accepted > 300, "{report}");
         assert!(report.judged().all(|(_, count)| count > 5), "{report}");
         assert!(report.claims_confirmed > 100 && report.contradictions_shown > 50, "{report}");
         let common = |counts: &RowCounts| {

@@ -1,8 +1,9 @@
 //! The second checker: the judgement of a whole text, with the five tables.
 
-use crate::formula::{Atoms, Formula, FormulaSet, Formulas, Node};
+use crate::formula::{Atoms, Formula, Formulas, Node};
 use crate::instance::{self, Step};
 use crate::line::{self, Line, Number, Row, Word};
+use crate::list::List;
 use crate::rules::ELK;
 use crate::semantics::in_equilibrium;
 use crate::sequent::{Kind, Sequent};
@@ -324,7 +325,7 @@ impl<'t> Checker<'t> {
     }
 
     fn take_row(&mut self, row: Row) -> Result<(), Refusal> {
-        let room = |pool: &[u16], side: &[Number]| pool.len() + side.len() <= MOST_IN_A_POOL;
+        let room = |pool: &[u16], side: &List| pool.len() as u64 + side.count() <= MOST_IN_A_POOL as u64;
         ensure(self.rows.len() < MOST_ROWS, Refusal::Full)?;
         ensure(room(&self.tables.left, &row.left) && room(&self.tables.right, &row.right), Refusal::Full)?;
         let principal = row.principal.map(|number| self.formula(number)).transpose()?;
@@ -339,21 +340,19 @@ impl<'t> Checker<'t> {
 
     /// The sequent of two sides, if all their formulas exist (7) and both are in
     /// order (9).
-    fn sequent(&self, left: &[Number], right: &[Number]) -> Result<Sequent, Refusal> {
-        let set = |side: &[Number]| -> Result<FormulaSet, Refusal> {
-            side.iter().map(|&number| self.formula(number)).collect()
-        };
-        let (antecedent, succedent) = (set(left)?, set(right)?);
+    fn sequent(&self, left: &List, right: &List) -> Result<Sequent, Refusal> {
+        let held = self.numbered.len();
+        ensure(left.below(held) && right.below(held), Refusal::NoSuchItem)?;
         ensure(well_ordered(left) && well_ordered(right), Refusal::BadSide)?;
-        Ok(Sequent { antecedent, succedent })
+        let set = |side: &List| side.numbers().map(|number| self.numbered[number as usize]).collect();
+        Ok(Sequent { antecedent: set(left), succedent: set(right) })
     }
 
     /// The set of a list of atoms, if they all exist (7) and are in order (9).
-    fn atoms(&self, list: &[Number]) -> Result<Atoms, Refusal> {
-        let missing = |&number: &Number| number as usize >= self.names.len();
-        ensure(!list.iter().any(missing), Refusal::NoSuchItem)?;
+    fn atoms(&self, list: &List) -> Result<Atoms, Refusal> {
+        ensure(list.below(self.names.len()), Refusal::NoSuchItem)?;
         ensure(well_ordered(list), Refusal::BadSide)?;
-        Ok(list.iter().map(|number| 1 << number).sum())
+        Ok(list.numbers().map(|number| 1 << number).sum())
     }
 
     fn premises_fit(&self, row: &Row) -> Result<(), Refusal> {
@@ -379,10 +378,10 @@ impl<'t> Checker<'t> {
     }
 
     fn store(&mut self, row: Row, sequent: Sequent) {
-        let place = |pool: &mut Vec<u16>, side: &[Number]| {
+        let place = |pool: &mut Vec<u16>, side: &List| {
             let start = pool.len() as u16;
-            pool.extend(side.iter().map(|&number| number as u16));
-            [start, side.len() as u16]
+            pool.extend(side.numbers().map(|number| number as u16));
+            [start, side.count() as u16]
         };
         let [left_start, left_length] = place(&mut self.tables.left, &row.left);
         let [right_start, right_length] = place(&mut self.tables.right, &row.right);
@@ -403,17 +402,17 @@ impl<'t> Checker<'t> {
 
     /// A row whose items all exist.
     fn written(&self, row: &Row) -> WrittenRow {
-        let formula = |&number: &Number| self.numbered[number as usize];
+        let formula = |number: Number| self.numbered[number as usize];
         WrittenRow {
             rule: row.rule,
-            principal: row.principal.as_ref().map(formula),
+            principal: row.principal.map(formula),
             premises: row.premises.iter().map(|&number| number as usize).collect(),
-            left: row.left.iter().map(formula).collect(),
-            right: row.right.iter().map(formula).collect(),
+            left: row.left.numbers().map(formula).collect(),
+            right: row.right.numbers().map(formula).collect(),
         }
     }
 
-    fn claim(&self, left: &[Number], right: &[Number]) -> Result<Sequent, Refusal> {
+    fn claim(&self, left: &List, right: &List) -> Result<Sequent, Refusal> {
         let claim = self.sequent(left, right)?;
         let derived = self.rows.last().is_some_and(|row| row.kind == Kind::Elk && row.sequent == claim);
         ensure(derived, Refusal::ClaimDiffers)?;
@@ -449,8 +448,8 @@ fn ensure(holds: bool, otherwise: Refusal) -> Result<(), Refusal> {
 }
 
 /// Strictly rising, and not over the most.
-fn well_ordered(list: &[Number]) -> bool {
-    list.is_sorted_by(|a, b| a < b) && list.len() <= MOST_ON_A_SIDE
+fn well_ordered(list: &List) -> bool {
+    list.rises() && list.count() <= MOST_ON_A_SIDE as u64
 }
 
 fn well_formed(name: &[u8]) -> bool {

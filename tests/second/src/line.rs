@@ -1,5 +1,6 @@
 //! One line of a text, read. What the paper calls a bad line reads as None.
 
+use crate::list::List;
 use crate::rules::ELK;
 use std::ops::Range;
 
@@ -11,8 +12,8 @@ pub enum Line {
     Atom { number: Number, name: Range<usize> },
     Formula { number: Number, word: Word },
     Row { number: Number, row: Row },
-    Model { atoms: Vec<Number> },
-    Claim { left: Vec<Number>, right: Vec<Number> },
+    Model { atoms: List },
+    Claim { left: List, right: List },
 }
 
 #[derive(Clone, Copy, Debug)]
@@ -30,8 +31,8 @@ pub struct Row {
     pub rule: usize,
     pub principal: Option<Number>,
     pub premises: Vec<Number>,
-    pub left: Vec<Number>,
-    pub right: Vec<Number>,
+    pub left: List,
+    pub right: List,
 }
 
 /// Reads a line that starts at byte `start` of the text; the LF is taken off.
@@ -49,14 +50,14 @@ pub fn read(line: &[u8], start: usize) -> Option<Line> {
             let row = Row {
                 rule: ELK.code(std::str::from_utf8(rule).ok()?)?,
                 principal: if principal == b"-" { None } else { Some(number(principal)?) },
-                premises: list(premises)?,
-                left: list(left)?,
-                right: list(right)?,
+                premises: read_premises(premises)?,
+                left: List::read(left)?,
+                right: List::read(right)?,
             };
             Some(Line::Row { number: number(own)?, row })
         }
-        [b"M", atoms] => Some(Line::Model { atoms: list(atoms)? }),
-        [b"C", left, right] => Some(Line::Claim { left: list(left)?, right: list(right)? }),
+        [b"M", atoms] => Some(Line::Model { atoms: List::read(atoms)? }),
+        [b"C", left, right] => Some(Line::Claim { left: List::read(left)?, right: List::read(right)? }),
         _ => None,
     }
 }
@@ -73,14 +74,15 @@ fn read_word(word: &[u8], first: &[u8], second: &[u8]) -> Option<Word> {
     })
 }
 
-fn list(field: &[u8]) -> Option<Vec<Number>> {
+/// A list without runs.
+fn read_premises(field: &[u8]) -> Option<Vec<Number>> {
     match field {
         b"-" => Some(vec![]),
         _ => field.split(|&byte| byte == b',').map(number).collect(),
     }
 }
 
-fn number(field: &[u8]) -> Option<Number> {
+pub fn number(field: &[u8]) -> Option<Number> {
     let well_written = matches!(field.len(), 1..=5)
         && field.iter().all(u8::is_ascii_digit)
         && (field[0] != b'0' || field.len() == 1);

@@ -1,9 +1,10 @@
-//! Damage to texts: to bytes, lines, fields, numbers, sides, premises, rules and models,
-//! and growth up to the limits and beyond. Most of it leaves the text nearly right.
+//! Damage to texts: to bytes, lines, fields, numbers, runs, sides, premises, rules and
+//! models, and growth up to the limits and beyond. Most of it leaves the text nearly right.
 
 use crate::draft::list;
 use crate::judge::{MOST_ATOMS, MOST_BYTES, MOST_FORMULAS, MOST_IN_A_MODEL, MOST_ROWS};
 use crate::random::Random;
+use crate::rewrite::{lists_of, numbers_of};
 use crate::rules::ELK;
 use std::collections::BTreeSet;
 
@@ -45,7 +46,7 @@ fn change_fields(random: &mut Random, text: &[u8]) -> Vec<u8> {
     if lines.is_empty() {
         return b"C\t-\t-\n".to_vec();
     }
-    match random.below(64) {
+    match random.below(68) {
         0 => grow(random, &mut lines),
         1 => lengthen(random, &mut lines),
         2..8 => change_lines(random, &mut lines),
@@ -56,6 +57,7 @@ fn change_fields(random: &mut Random, text: &[u8]) -> Vec<u8> {
         32..36 => change_row(random, &mut lines, change_principal),
         36..44 => change_last_row_and_claim(random, &mut lines),
         44..52 => change_model(random, &mut lines),
+        52..56 => change_item(random, &mut lines),
         _ => change_row(random, &mut lines, change_side),
     }
     lines.iter().map(|fields| fields.join("\t") + "\n").collect::<String>().into_bytes()
@@ -105,6 +107,37 @@ fn number(random: &mut Random) -> String {
         0 => special[random.below(special.len())].into(),
         _ => random.below(30).to_string(),
     }
+}
+
+/// Puts a run, often a bad one, in the place of an item of a list, or after it; now and
+/// then of another field.
+fn change_item(random: &mut Random, lines: &mut Fields) {
+    let line = random.below(lines.len());
+    let fields = &mut lines[line];
+    let field = match lists_of(fields) {
+        lists if lists.is_empty() || random.once_in(10) => random.below(fields.len()),
+        lists => lists.start + random.below(lists.len()),
+    };
+    let mut items: Vec<String> = fields[field].split(',').map(String::from).collect();
+    let at = random.below(items.len());
+    let held = numbers_of(&items[at]).map_or(0, |numbers| numbers.end - 1);
+    let first = random.pick(&[held, held, held + 1, 0]);
+    let last = random.pick(&[first + 1, first + 2, first, 0, 63, 64, 1_023, 16_384, 65_536, 99_999, 100_000]);
+    let run = match random.below(12) {
+        0 => format!("{first}-0{last}"),
+        1 => format!("{first}-{last}-{}", last + 1),
+        2 => format!("{first}-"),
+        3 => format!("-{last}"),
+        4 => format!("{first}--{last}"),
+        5 => format!("{first}-{last},"),
+        _ => format!("{first}-{last}"),
+    };
+    if random.once_in(2) {
+        items[at] = run;
+    } else {
+        items.insert(at + 1, run);
+    }
+    fields[field] = items.join(",");
 }
 
 /// Changes one row, of seven fields, if there is one: one of the last, on which no
@@ -216,8 +249,9 @@ fn change_model(random: &mut Random, lines: &mut Fields) {
     }
 }
 
-fn numbers(field: &str) -> Vec<usize> {
-    field.split(',').filter_map(|number| number.parse().ok()).collect()
+/// The numbers of a list, as many as a plain one has room for.
+fn numbers(list: &str) -> Vec<usize> {
+    list.split(',').filter_map(numbers_of).flatten().take(MOST_BYTES).collect()
 }
 
 /// More lines of one kind, up to a limit, and often one over it.

@@ -2,14 +2,17 @@
 
 use crate::corpus::{self, Case};
 use crate::generate;
-use crate::judge::{LEAST, Tables};
+use crate::judge::{LEAST, MOST_BYTES, Tables};
 use crate::mutate::mutate;
 use crate::random::Random;
+use crate::rewrite;
 
 /// A text, the lengths of the tables lent with it, and its number and line where they
-/// are known.
+/// are known. The same text with its lists in another writing, where there is one and both
+/// are within the most bytes: it has the same answer and the same tables.
 pub struct Sample {
     pub text: Vec<u8>,
+    pub rewritten: Option<Vec<u8>>,
     pub lent: Tables<usize>,
     pub answer: Option<(u16, usize)>,
 }
@@ -45,8 +48,14 @@ fn batch(random: &mut Random, groups: &[Vec<Case>]) -> Vec<Sample> {
     samples
 }
 
-/// Tables of the least lengths or with room to spare; now and then one is too short.
-fn lend(random: &mut Random, text: Vec<u8>, answer: Option<(u16, usize)>) -> Sample {
+/// The text in some writing of its lists, and tables of the least lengths or with room to
+/// spare; now and then one is too short.
+fn lend(random: &mut Random, mut text: Vec<u8>, answer: Option<(u16, usize)>) -> Sample {
+    let mut rewritten = None;
+    if text.len() <= MOST_BYTES {
+        text = rewrite::at_random(random, &text).unwrap_or(text);
+        rewritten = rewrite::at_random(random, &text).filter(|other| *other != text);
+    }
     let most_to_spare = random.pick(&[0, 1, 99]);
     let short = random.once_in(40).then(|| random.below(5));
     let mut tables = 0..5;
@@ -56,5 +65,5 @@ fn lend(random: &mut Random, text: Vec<u8>, answer: Option<(u16, usize)>) -> Sam
         false => least + random.below(most_to_spare + 1),
     });
     let answer = if short.is_some() { Some((1, 0)) } else { answer };
-    Sample { text, lent, answer }
+    Sample { text, rewritten, lent, answer }
 }

@@ -1,9 +1,10 @@
 //! `first_difference FOLDER` judges the texts of a corpus in order, as far as the first
-//! that earns another answer than answers.tsv says, or other words than stand beside it;
-//! it prints that one and fails.
+//! that earns another answer than answers.tsv says, other tables than the text that
+//! plain.tsv names, or other words than stand beside it; it prints that one and fails.
 
 use second::judge::{Judgement, LEAST, judge};
 use second::words::{Answer, words};
+use std::collections::HashMap;
 use std::path::Path;
 use std::process::ExitCode;
 
@@ -13,13 +14,22 @@ const LENT: usize = 1 << 20;
 fn main() -> std::io::Result<ExitCode> {
     let folder = std::env::args().nth(1).expect("usage: first_difference FOLDER");
     let folder = Path::new(&folder);
+    let text_of = |name: &str| std::fs::read(folder.join(format!("{name}.txt")));
+    let pairs = std::fs::read_to_string(folder.join("plain.tsv"))?;
+    let plain: HashMap<&str, &str> = pairs.lines().filter_map(|pair| pair.split_once('\t')).collect();
     for expected in std::fs::read_to_string(folder.join("answers.tsv"))?.lines() {
         let name = expected.split('\t').next().expect("a line starts with a name");
-        let text = std::fs::read(folder.join(format!("{name}.txt")))?;
+        let text = text_of(name)?;
         let judgement = judge(&text, &LEAST);
         let given = format!("{name}\t{}\t{}", judgement.number, judgement.line);
         if given != expected {
             println!("{given}");
+            return Ok(ExitCode::FAILURE);
+        }
+        if let Some(plain) = plain.get(name)
+            && judge(&text_of(plain)?, &LEAST) != judgement
+        {
+            println!("{name}\tother tables than {plain}");
             return Ok(ExitCode::FAILURE);
         }
         let printed = folder.join(format!("{name}.words"));

@@ -43,13 +43,13 @@ pub fn full_rows() -> String {
 
 /// A pool, and the side of a row that goes into it.
 #[derive(Clone, Copy)]
-enum Pool {
+pub enum Pool {
     Left,
     Right,
 }
 
 impl Pool {
-    fn name(self) -> &'static str {
+    pub fn name(self) -> &'static str {
         match self {
             Pool::Left => "left",
             Pool::Right => "right",
@@ -57,20 +57,20 @@ impl Pool {
     }
 
     /// A list on this side and another across, as the last two fields of a line.
-    fn sides(self, here: &str, across: &str) -> String {
+    pub fn sides(self, here: &str, across: &str) -> String {
         match self {
             Pool::Left => format!("{here}\t{across}\n"),
             Pool::Right => format!("{across}\t{here}\n"),
         }
     }
 
-    fn row(self, number: usize, here: &str, across: &str) -> String {
+    pub fn row(self, number: usize, here: &str, across: &str) -> String {
         format!("N\t{number}\tsame\t0\t-\t{}", self.sides(here, across))
     }
 
     /// Rows that hold so many entries here, and the count of rows: rows with 64, one with
     /// the rest, and # => #, which can be claimed without a model.
-    fn filled(self, entries: usize) -> (String, usize) {
+    pub fn filled(self, entries: usize) -> (String, usize) {
         let (wide, rest) = ((entries - 1) / MOST_ON_A_SIDE, (entries - 1) % MOST_ON_A_SIDE);
         let lengths = [vec![MOST_ON_A_SIDE; wide], vec![rest], vec![1]].concat();
         let rows = lengths.iter().enumerate().map(|(k, &length)| self.row(k, &up_to(length), "0"));

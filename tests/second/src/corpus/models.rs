@@ -271,7 +271,7 @@ accepted an_alternative_that_does_not_hold_in_it
 ";
 
 /// A file of 64 atoms whose sheet is some of them, with a set of them as the model.
-fn facts(sheet: Range<usize>, model: Range<usize>) -> String {
+pub fn facts(sheet: Range<usize>, model: Range<usize>) -> String {
     let [first, sheet, model] =
         [list(&[sheet.start]), list(&sheet.collect::<Vec<_>>()), list(&model.collect::<Vec<_>>())];
     let rest = format!("N 0 same {first} - {sheet} {first} / M {model} / C {sheet} {first}");
