@@ -2,15 +2,15 @@
 -- Assumes nothing.
 use Prim.Native.Nat.{ℕ, zero, suc, _+_, _-_, _≤_, _<_, min, max}
 use mathlib.Core.Path.{_≡_, refl, sym, ap, ap₂, _∙_}
-use mathlib.Core.Bool.{Bool, true, false, cond, _&&_}
+use mathlib.Core.Bool.{Bool, true, false, _&&_, and-true, and-false}
 use mathlib.Core.List.{List, [], _∷_, _++_, append-assoc, append-nil}
 use mathlib.Core.Option.{Option, none, some}
 use native.Mathlib.Numerals.{lt-of-le-of-ne}
 use native.Mathlib.Omega.{arith}
-use lib.Dec.{ltb}
+use lib.Dec.{ltb, leb}
 use lib.ListN.{length, drop, set, length-append, length-set}
 use lib.Seq.{set-out}
-use borrow.Author.Tests.{lt-ltb, le-ltb, ltb-true, ltb-false}
+use borrow.Author.Tests.{lt-ltb, le-ltb, ltb-true, ltb-false, leb-true, leb-false}
 use Rattle.format.specs.Text.{Bytes, comma, partsAt, each, is, Item, meantBy, upFrom, writtenOut, itemsOf, sideOf, listOf, numberOf, strictlyRising, _<$>_, _<*>_}
 use Rattle.parts.specs.Refusals.{badIfNone}
 use Rattle.parts.specs.Parts.{nextAt}
@@ -97,21 +97,24 @@ module _ (first last : ℕ) (ordered : first ≤ last) (listed : Listed) (count 
   above-with : (xs : List ℕ) → above (xs ++ spanned first last) ≡ max (above xs) (last + 1)
   above-with xs = above-append xs (spanned first last) ∙ ap (max (above xs)) (above-spanned first last ordered)
 
-  module _ (xs : List ℕ) (e : listed ≡ listedAs (some xs)) where
-    pub entered-above : listed .above ≤ first → listing count (last + 1) (listed .rising) ≡ listedAs (some (xs ++ spanned first last))
-    entered-above h =
-        let below : above xs ≤ first = omega (arith, ap (λ l. l .above) e) in
-        let cons = spanned-cons first last ordered in
-        let rises = sym (ap strictlyRising cons) ∙ rising-up first (last + 1 - first) in
-        same-listing (counted-up xs e) (omega (arith, above-with xs))
-        (ap (λ l. l .rising) e ∙ sym (ap (λ l. strictlyRising (xs ++ l)) cons ∙ rising-after xs first _ rises below))
+  rising-with : (xs : List ℕ) → strictlyRising (xs ++ spanned first last) ≡ strictlyRising xs && leb (above xs) first
+  rising-with xs = ap (λ l. strictlyRising (xs ++ l)) cons ∙ by-test (leb (above xs) first) refl
+    where
+      cons : spanned first last ≡ first ∷ upFrom (first + 1) (last - first)
+      cons = spanned-cons first last ordered
 
-    pub entered-below : first < listed .above → (past : ℕ) → past ≡ max (listed .above) (last + 1)
-        → listing count past false ≡ listedAs (some (xs ++ spanned first last))
-    entered-below h past is-past =
-        let before : first < above xs = omega (arith, ap (λ l. l .above) e) in
-        same-listing (counted-up xs e) (is-past ∙ ap (λ l. max (l .above) (last + 1)) e ∙ sym (above-with xs))
-        (sym (ap (λ l. strictlyRising (xs ++ l)) (spanned-cons first last ordered) ∙ not-rising-after xs first _ before))
+      by-test : (t : Bool) → leb (above xs) first ≡ t
+          → strictlyRising (xs ++ first ∷ upFrom (first + 1) (last - first)) ≡ strictlyRising xs && t
+      by-test true e =
+          let rises = sym (ap strictlyRising cons) ∙ rising-up first (last + 1 - first) in
+          rising-after xs first _ rises (leb-true (above xs) first e) ∙ sym (and-true (strictlyRising xs))
+      by-test false e = not-rising-after xs first _ (leb-false (above xs) first e) ∙ sym (and-false (strictlyRising xs))
+
+  pub entered-with : (past : ℕ) → past ≡ max (listed .above) (last + 1) → (rising : Bool) → rising ≡ listed .rising && leb (listed .above) first
+      → (xs : List ℕ) → listed ≡ listedAs (some xs) → listing count past rising ≡ listedAs (some (xs ++ spanned first last))
+  entered-with past is-past rising rises xs e =
+      same-listing (counted-up xs e) (is-past ∙ ap (λ l. max (l .above) (last + 1)) e ∙ sym (above-with xs))
+      (rises ∙ ap (λ l. l .rising && leb (l .above) first) e ∙ sym (rising-with xs))
 
 -- ---- what is stored
 

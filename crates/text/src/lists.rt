@@ -48,21 +48,11 @@ fn entered(listed: Listed, first: u32, last: u32) -> Listed
     requires { ⌜ (listed .count ≤ mostCounted) × (first ≤ last) ⌝ }
     ensures { λ r. ⌜ ((xs : List ℕ) → listed ≡ listedAs (some xs) → r ≡ listedAs (some (xs ++ spanned first last))) ⌝ }
 {
-    let count = counted(listed.count, first, last);
-    let past = last as usize + 1;
-    if listed.above <= first as usize {
-        return Listed {
-            well: true,
-            count,
-            above: past,
-            rising: listed.rising,
-        };
-    }
     Listed {
         well: true,
-        count,
-        above: larger(listed.above, past),
-        rising: false,
+        count: counted(listed.count, first, last),
+        above: larger(listed.above, last as usize + 1),
+        rising: listed.rising && listed.above <= first as usize,
     }
 }
 
