@@ -13,7 +13,7 @@ use text::numbers::Optional;
 pub fn past(list: Listed, held: usize) -> bool
     ensures { λ r. ⌜ r ≡ pastOf list held ⌝ }
 {
-    held < list.above as usize
+    held < list.above
 }
 
 // Whether the principal formula is not below `held`.

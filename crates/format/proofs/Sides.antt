@@ -1,12 +1,11 @@
 -- What a number is made of; and a plain list, as a side, means what it meant before there were runs.
-use Prim.Native.Nat.{ℕ, suc, _+_, _-_, _*_, _^_, _≤_, _<_}
-use mathlib.Core.Path.{_≡_, refl, sym, ap, ap₂, subst, _∙_}
+use Prim.Native.Nat.{ℕ, _≤_}
+use mathlib.Core.Path.{_≡_, refl, sym, ap, ap₂, _∙_}
 use mathlib.Core.Bool.{Bool, true, false, not, cond, _&&_, true≢false, false≢true}
 use mathlib.Core.List.{List, [], _∷_}
 use mathlib.Core.Option.{Option, none, some}
-use native.Mathlib.Nat.{pow-suc, pow-le-pow-right}
 use native.Mathlib.Omega.{arith}
-use lib.Dec.{leb, lit<}
+use lib.Dec.{leb}
 use lib.ListN.{length}
 use borrow.Author.Tests.{leb-true, ne-eqb}
 use Rattle.format.specs.Text.{Bytes, comma, hyphen, all, each, is, isDigit, leadingZero, valueFrom, onlyIf, numberOf, listOf, partsAt, _<$>_, _<*>_}
@@ -48,22 +47,6 @@ number-digits field n e =
     was-not : (t : Bool) → not t ≡ true → t ≡ false
     was-not true h = absurd (false≢true h)
     was-not false h = refl
-
--- each digit makes a number ten times as large at the most
-value-below : (ds : Bytes) (n k : ℕ) → n < 10 ^ k → all isDigit ds ≡ true → valueFrom n ds < 10 ^ (k + length ds)
-value-below [] n k h e = let same : k ≡ k + 0 = omega arith in subst (λ (m : ℕ). n < 10 ^ m) same h
-value-below (d ∷ ds) n k h e =
-    let parts = and-true (isDigit d) (all isDigit ds) e in
-    let digit = and-true (leb 48 d) (leb d 57) (parts .0) in
-    let more : n * 10 + (d - 48) < 10 ^ suc k = rw pow-suc (omega (arith, leb-true d 57 (digit .1))) in
-    let same : suc k + length ds ≡ k + suc (length ds) = omega arith in
-    subst (λ (m : ℕ). valueFrom (n * 10 + (d - 48)) ds < 10 ^ m) same (value-below ds (n * 10 + (d - 48)) (suc k) more (parts .1))
-
-pub number-small : (field : Bytes) (n : ℕ) → numberOf field ≡ some n → n < 100000
-number-small field n e =
-    let d = number-digits field n e in
-    let below = value-below field 0 0 (lit< tt) (d .digits) in
-    omega (arith, d .value, below, pow-le-pow-right {n = 10} (lit< tt) {i = 0 + length field} {j = 5} (omega (arith, d .at-most-five)))
 
 -- digits are no other byte
 pub digits-without : (s : ℕ) → isDigit s ≡ false → (bs : Bytes) → all isDigit bs ≡ true → Without s bs

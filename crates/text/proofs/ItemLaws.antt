@@ -1,7 +1,7 @@
 -- The item that starts at a place of a field, by the number that stands there and the byte after it.
 -- Assumes nothing.
 use Prim.Native.Nat.{ℕ, zero, suc, _+_, _-_, _≤_, _<_}
-use mathlib.Core.Path.{_≡_, refl, sym, ap, ap₂, subst, _∙_}
+use mathlib.Core.Path.{_≡_, refl, sym, ap, ap₂, _∙_}
 use mathlib.Core.Bool.{Bool, true, false}
 use mathlib.Core.List.{List, [], _∷_}
 use mathlib.Core.Option.{Option, none, some}
@@ -12,7 +12,7 @@ use lib.ListN.{length, getD, take, drop, length-take, length-drop}
 use lib.Seq.{drop-drop, getD-drop, getD-take}
 use borrow.Author.Tests.{ltb-true, ltb-false, lt-ltb, le-ltb}
 use Rattle.format.specs.Text.{Bytes, comma, hyphen, partsAt, onlyIf, Item, isOrdered, passing, itemFrom, itemOf, meantBy, numberOf, _<$>_, _<*>_}
-use Rattle.format.proofs.Sides.{number-small, number-parts, number-item}
+use Rattle.format.proofs.Sides.{number-parts, number-item}
 use Rattle.parts.specs.Parts.{before, nextAt, between}
 use Rattle.parts.proofs.PartLaws.{next-inside, next-found, next-least, next-bounds, next-same, next-part, last-part, first-part}
 use Rattle.text.specs.Numbers.{numberAs, digitsAhead, numberAt}
@@ -25,11 +25,6 @@ use Rattle.text.proofs.ListLaws.{spanned-one}
 use Rattle.text.proofs.NumberLaws.{digits-to, was-number, was-no-number, part-bad, part-within, part-cut, part-full}
 
 -- ---- an item by its parts
-
--- the last number of an item
-abbrev lastOf : Item → ℕ
-lastOf (Item.one n) = n
-lastOf (Item.run first last) = last
 
 -- no item begins with what is no number
 item-headless : (first : Bytes) (rest : List Bytes) → numberOf first ≡ none → itemFrom (first ∷ rest) ≡ none
@@ -83,48 +78,24 @@ was-no-span none k e = refl
 was-no-span (some (Item.one n)) k e = let z : _≡_ {A = ℕ} 0 1 = cc in absurd (omega arith)
 was-no-span (some (Item.run a b)) k e = let z : _≡_ {A = ℕ} 0 1 = cc in absurd (omega arith)
 
--- the numbers of an item are small
-item-small : (parts : List Bytes) (item : Item) → itemFrom parts ≡ some item → lastOf item < 100000
-item-small [] item e = let z : _≡_ {A = ℕ} 0 1 = cc in absurd (omega arith)
-item-small (n ∷ []) item e = by-number (numberOf n) refl e
-  where
-    by-number : (o : Option ℕ) → numberOf n ≡ o → ((λ n. Item.one n) <$> o) ≡ some item → lastOf item < 100000
-    by-number none h k = let z : _≡_ {A = ℕ} 0 1 = cc in absurd (omega arith)
-    by-number (some m) h k = let same : Item.one m ≡ item = cc in subst (λ i. lastOf i < 100000) same (number-small n m h)
-item-small (first ∷ last ∷ []) item e = by-numbers (numberOf first) (numberOf last) refl e
-  where
-    by-numbers : (o q : Option ℕ) → numberOf last ≡ q → ((λ m n. Item.run m n) <$> o <*> q) ≡ some item → lastOf item < 100000
-    by-numbers none q h k = let z : _≡_ {A = ℕ} 0 1 = cc in absurd (omega arith)
-    by-numbers (some m) none h k = let z : _≡_ {A = ℕ} 0 1 = cc in absurd (omega arith)
-    by-numbers (some m) (some n) h k = let same : Item.run m n ≡ item = cc in subst (λ i. lastOf i < 100000) same (number-small last n h)
-item-small (first ∷ last ∷ p ∷ ps) item e = let z : _≡_ {A = ℕ} 0 1 = cc in absurd (omega arith)
-
 -- a run is read only if it is ordered
-pub span-bounds : (runs : Bool) (bs : Bytes) (k first last end : ℕ) → spanAs (itemBy runs bs) k ≡ Span.Of first last end
-    → (first ≤ last) × (last < 100000)
+pub span-ordered : (runs : Bool) (bs : Bytes) (k first last end : ℕ) → spanAs (itemBy runs bs) k ≡ Span.Of first last end → first ≤ last
 unfolding itemOf
-span-bounds true bs k first last end e = by-item (itemFrom (partsAt hyphen bs)) refl e
+span-ordered true bs k first last end e = by-item (itemFrom (partsAt hyphen bs)) e
   where
-    by-item : (o : Option Item) → itemFrom (partsAt hyphen bs) ≡ o → spanAs (passing isOrdered o) k ≡ Span.Of first last end
-        → (first ≤ last) × (last < 100000)
-    by-item none h g = let z : _≡_ {A = ℕ} 0 1 = cc in absurd (omega arith)
-    by-item (some (Item.one n)) h g =
-        let one : n ≡ first = cc in
-        let other : n ≡ last = cc in
-        omega (arith, item-small (partsAt hyphen bs) (Item.one n) h)
-    by-item (some (Item.run a b)) h g = by-test (ltb a b) refl g
+    by-item : (o : Option Item) → spanAs (passing isOrdered o) k ≡ Span.Of first last end → first ≤ last
+    by-item none h = let z : _≡_ {A = ℕ} 0 1 = cc in absurd (omega arith)
+    by-item (some (Item.one n)) h = let one : n ≡ first = cc in let other : n ≡ last = cc in omega arith
+    by-item (some (Item.run a b)) h = by-test (ltb a b) refl h
       where
-        by-test : (t : Bool) → ltb a b ≡ t → spanAs (onlyIf t (some (Item.run a b))) k ≡ Span.Of first last end → (first ≤ last) × (last < 100000)
-        by-test true l q =
-            let one : a ≡ first = cc in
-            let other : b ≡ last = cc in
-            omega (arith, ltb-true a b l, item-small (partsAt hyphen bs) (Item.run a b) h)
-        by-test false l q = let z : _≡_ {A = ℕ} 0 1 = cc in absurd (omega arith)
-span-bounds false bs k first last end e = by-number (numberOf bs) refl e
+        by-test : (t : Bool) → ltb a b ≡ t → spanAs (onlyIf t (some (Item.run a b))) k ≡ Span.Of first last end → first ≤ last
+        by-test true l g = let one : a ≡ first = cc in let other : b ≡ last = cc in omega (arith, ltb-true a b l)
+        by-test false l g = let z : _≡_ {A = ℕ} 0 1 = cc in absurd (omega arith)
+span-ordered false bs k first last end e = by-number (numberOf bs) e
   where
-    by-number : (o : Option ℕ) → numberOf bs ≡ o → spanAs ((λ n. Item.one n) <$> o) k ≡ Span.Of first last end → (first ≤ last) × (last < 100000)
-    by-number none h g = let z : _≡_ {A = ℕ} 0 1 = cc in absurd (omega arith)
-    by-number (some n) h g = let one : n ≡ first = cc in let other : n ≡ last = cc in omega (arith, number-small bs n h)
+    by-number : (o : Option ℕ) → spanAs ((λ n. Item.one n) <$> o) k ≡ Span.Of first last end → first ≤ last
+    by-number none h = let z : _≡_ {A = ℕ} 0 1 = cc in absurd (omega arith)
+    by-number (some n) h = let one : n ≡ first = cc in let other : n ≡ last = cc in omega arith
 
 -- the later bytes of the first ones
 drop-take : (k n : ℕ) (bs : Bytes) → drop k (take n bs) ≡ take (n - k) (drop k bs)

@@ -16,7 +16,7 @@ use Rattle.text.specs.Items.{itemBy, partAt, itemAt}
 use Rattle.text.specs.Lists.{mostCounted, above, laidOver, spanned, listedAs, ListedInto, HeldList, listRefusal, listBy, leads, itemsAhead, entriesOf}
 use Rattle.text.specs.declared.items.Span.{Span}
 use Rattle.text.specs.declared.lists.Listed.{Listed}
-use Rattle.text.proofs.ItemLaws.{was-span, was-no-span, span-bounds}
+use Rattle.text.proofs.ItemLaws.{was-span, was-no-span, span-ordered}
 use Rattle.text.proofs.ListLaws.{listing, listed-count, laid-length}
 
 -- ---- a list by its items
@@ -142,9 +142,9 @@ module _ (runs : Bool) (field was out : List ℕ) (listed : Listed) (at : ℕ) (
     unfolding itemAt next
     item-read = was-span next (nextAt comma field at) first last end e
 
-    pub item-numbers : (first ≤ last) × (last < 100000)
+    pub item-ordered : first ≤ last
     unfolding itemAt
-    item-numbers = span-bounds runs (partAt field at) (nextAt comma field at) first last end e
+    item-ordered = span-ordered runs (partAt field at) (nextAt comma field at) first last end e
 
     pub item-bounds : (at ≤ end) × (end ≤ length field)
     item-bounds = rw (item-read .3) at (next-bounds comma field at (l .within))

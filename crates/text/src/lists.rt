@@ -3,7 +3,7 @@ ghost use mathlib.Core.Path.{_≡_};
 ghost use mathlib.Core.Bool.{true, false};
 ghost use mathlib.Core.List.{List, _++_};
 ghost use mathlib.Core.Option.{some};
-ghost use Prim.Native.Nat.{ℕ, _+_, _-_, _≤_, _<_, min, max};
+ghost use Prim.Native.Nat.{ℕ, _+_, _-_, _≤_, min, max};
 ghost use lib.ListN.{set};
 ghost use Rattle.text.specs.Lists.{mostCounted, spanned, laidAt, listedAs, ListedInto, HeldList};
 use crate::items::Span;
@@ -18,7 +18,7 @@ const MOST_COUNTED: usize = 9223372036854775808;
 pub struct Listed {
     pub well: bool,
     pub count: usize,
-    pub above: u32,
+    pub above: usize,
     pub rising: bool,
 }
 
@@ -34,7 +34,7 @@ fn counted(count: usize, first: u32, last: u32) -> usize
     MOST_COUNTED
 }
 
-fn larger(m: u32, n: u32) -> u32
+fn larger(m: usize, n: usize) -> usize
     ensures { λ r. ⌜ r ≡ max m n ⌝ }
 {
     if m < n {
@@ -45,14 +45,14 @@ fn larger(m: u32, n: u32) -> u32
 
 // What is known of a list after the numbers from `first` to `last`.
 fn entered(listed: Listed, first: u32, last: u32) -> Listed
-    requires { ⌜ (listed .count ≤ mostCounted) × (first ≤ last) × (last < 100000) ⌝ }
+    requires { ⌜ (listed .count ≤ mostCounted) × (first ≤ last) ⌝ }
     ensures { λ r. ⌜ ((xs : List ℕ) → listed ≡ listedAs (some xs) → r ≡ listedAs (some (xs ++ spanned first last))) ⌝ }
 {
     Listed {
         well: true,
         count: counted(listed.count, first, last),
-        above: larger(listed.above, last + 1),
-        rising: listed.rising && listed.above <= first,
+        above: larger(listed.above, last as usize + 1),
+        rising: listed.rising && listed.above <= first as usize,
     }
 }
 
@@ -93,7 +93,7 @@ fn store_run(out: &mut [u16], at: usize, first: u32, last: u32)
 
 // One more item, with its numbers stored. Most items are one number, which needs no loop.
 fn enter(listed: Listed, first: u32, last: u32, out: &mut [u16]) -> Listed
-    requires { ⌜ (listed .count ≤ mostCounted) × (first ≤ last) × (last < 100000) ⌝ }
+    requires { ⌜ (listed .count ≤ mostCounted) × (first ≤ last) ⌝ }
     ensures { λ r. ⌜ ((xs was : List ℕ) → HeldList xs was (now (out .entry)) listed → HeldList (xs ++ spanned first last) was (now (out .exit)) r) ⌝ }
 {
     if first == last {

@@ -10,11 +10,17 @@ use Rattle.text.proofs.lists.entered.Tie as tie
 counted-requires : tie.Need-counted-requires
 counted-requires c κs = search needs
 
+cast-larger : tie.Need-cast-larger
+cast-larger c = search needs
+
 add-larger : tie.Need-add-larger
 add-larger c = search needs
 
 larger-requires : tie.Need-larger-requires
 larger-requires c κs = search needs
+
+cast-t17 : tie.Need-cast-t17
+cast-t17 c = search needs
 
 returns : tie.Need-returns
 returns c xs e =
@@ -31,4 +37,6 @@ returns-2 c xs e =
     entered-with _ _ (called .before .pre .1) _ _ (called .counted .ensures) _ (c .before .larger .ensures) _ rises xs e
 
 pub entered-spec : {M : Type 1} → statement M
-entered-spec = tie.close (tie.spec counted-requires add-larger larger-requires returns returns-2)
+entered-spec =
+    tie.close
+    (tie.spec counted-requires cast-larger add-larger larger-requires cast-t17 returns returns-2)

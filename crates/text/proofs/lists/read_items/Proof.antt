@@ -6,7 +6,7 @@ use native.Mathlib.Omega.{arith}
 use borrow.Author.Needs.{needs}
 use lib.ListN.{length}
 use Rattle.text.proofs.Listing.{Listing, listing-none, listing-length, listing-count, listing-more, listed-none, listed-bad, listed-last}
-use Rattle.text.proofs.Listing.{item-numbers, item-bounds}
+use Rattle.text.proofs.Listing.{item-ordered, item-bounds}
 use Rattle.text.proofs.lists.read_items.Statement.{statement}
 use Rattle.text.proofs.lists.read_items.Tie as tie
 
@@ -45,8 +45,7 @@ enter-requires c κs =
     let item = c .before .before in
     let at-loop = item .before .before .before in
     let value = sym (item .before .before .read-item .ensures) ∙ item .item .given .1 in
-    let numbers = item-numbers _ _ _ _ _ _ (at-loop .loop .inv) _ _ _ value in
-    (listing-count _ _ _ _ _ _ (at-loop .loop .inv), numbers .0, numbers .1)
+    (listing-count _ _ _ _ _ _ (at-loop .loop .inv), item-ordered _ _ _ _ _ _ (at-loop .loop .inv) _ _ _ value)
 
 same-length-2 : tie.Need-same-length-2 Inv-loop μ-loop
 same-length-2 c =
