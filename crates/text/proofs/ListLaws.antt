@@ -80,7 +80,7 @@ not-rising-after (i ∷ j ∷ js) a ys h = by-test (ltb i j) refl (not-rising-af
 
 -- ---- what is known of a list
 
-abbrev pub listing : ℕ → ℕ → Bool → Listed
+abbrev listing : ℕ → ℕ → Bool → Listed
 listing count past rising = record { well = true; count = count; above = past; rising = rising }
 
 same-listing : {c c′ l l′ : ℕ} {r r′ : Bool} → c ≡ c′ → l ≡ l′ → r ≡ r′ → listing c l r ≡ listing c′ l′ r′

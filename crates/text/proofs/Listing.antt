@@ -17,7 +17,7 @@ use Rattle.text.specs.Lists.{mostCounted, above, laidOver, spanned, list
 use Rattle.text.specs.declared.items.Span.{Span}
 use Rattle.text.specs.declared.lists.Listed.{Listed}
 use Rattle.text.proofs.ItemLaws.{was-span, was-no-span, span-ordered}
-use Rattle.text.proofs.ListLaws.{listing, listed-count, laid-length}
+use Rattle.text.proofs.ListLaws.{listed-count, laid-length}
 
 -- ---- a list by its items
 
@@ -71,24 +71,27 @@ list-refusal : (o : Option (List ℕ)) → listRefusal (listedAs o) ≡ badIfNon
 list-refusal none = refl
 list-refusal (some xs) = refl
 
-pub listing-none : (runs : Bool) (field was : List ℕ) → is "-" field ≡ false → Listing runs field was was (listing 0 0 true) 0
-unfolding entriesOf laidOver above strictlyRising
-listing-none runs field was e =
+pub listing-none : (runs : Bool) (field was : List ℕ) → is "-" field ≡ false → {listed : Listed} → listed ≡ listedAs (some [])
+    → Listing runs field was was listed 0
+unfolding entriesOf laidOver
+listing-none runs field was e empty =
     record {
       entries = [];
-      holds = record { answer = refl; stored = refl };
+      holds = record { answer = empty; stored = refl };
       within = omega arith;
       whole = list-by runs field e ∙ sym (then-none (each (itemBy runs) (partsAt comma field)));
       begun = simp e;
     }
 
-pub listed-none : (runs : Bool) (field was : List ℕ) → is "-" field ≡ true → ListedInto runs field was was (listing 0 0 true)
-unfolding entriesOf laidOver above strictlyRising
-listed-none runs field was e =
+pub listed-none : (runs : Bool) (field was : List ℕ) → is "-" field ≡ true → {listed : Listed} → listed ≡ listedAs (some [])
+    → ListedInto runs field was was listed
+unfolding entriesOf laidOver
+listed-none runs field was e empty =
     let none-there = list-none runs field e in
+    let answer = empty ∙ ap listedAs (sym none-there) in
     record {
-      answer = ap listedAs (sym none-there);
-      refusal = ap badIfNone (sym none-there);
+      answer = answer;
+      refusal = ap listRefusal answer ∙ list-refusal (listBy runs field);
       stored = λ xs h. ap (λ xs. laidOver xs was) (some-injective [] xs (sym none-there ∙ h));
       begun = simp e;
       kept = refl;

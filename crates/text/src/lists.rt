@@ -1,10 +1,11 @@
 // Lists of numbers, with runs or without.
 ghost use mathlib.Core.Path.{_≡_};
 ghost use mathlib.Core.Bool.{true, false};
-ghost use mathlib.Core.List.{List, _++_};
+ghost use mathlib.Core.List.{List, [], _++_};
 ghost use mathlib.Core.Option.{some};
 ghost use Prim.Native.Nat.{ℕ, _+_, _-_, _≤_, min, max};
 ghost use lib.ListN.{set};
+ghost use Rattle.format.specs.Text.{is};
 ghost use Rattle.text.specs.Lists.{mostCounted, spanned, laidAt, listedAs, ListedInto, HeldList};
 use crate::items::Span;
 use crate::items::read_item;
@@ -104,20 +105,25 @@ fn enter(listed: Listed, first: u32, last: u32, out: &mut [u16]) -> Listed
     entered(listed, first, last)
 }
 
-// The list that a field writes, read to its end. The entries that it means are stored into `out`, as far as that is long; of a
-// badly written list those before the first bad item.
-fn read_items(field: &[u8], runs: bool, out: &mut [u16]) -> Listed
-    ensures { λ r. ⌜ ListedInto runs (now (field .entry)) (now (out .entry)) (now (out .exit)) r ⌝ }
+// A list without entries.
+fn no_entries() -> Listed
+    ensures { λ r. ⌜ r ≡ listedAs (some []) ⌝ }
 {
-    let mut listed = Listed {
+    Listed {
         well: true,
         count: 0,
         above: 0,
         rising: true,
-    };
-    if is_dash(field) {
-        return listed;
     }
+}
+
+// The items that a field writes, read to its end. The entries that they mean are stored into `out`, as far as that is long; of a
+// badly written list those before the first bad item.
+fn read_items(field: &[u8], runs: bool, out: &mut [u16]) -> Listed
+    requires { ⌜ is "-" (now field) ≡ false ⌝ }
+    ensures { λ r. ⌜ ListedInto runs (now (field .entry)) (now (out .entry)) (now (out .exit)) r ⌝ }
+{
+    let mut listed = no_entries();
     let mut at: usize = 0;
     loop {
         let item = read_item(field, at, runs);
@@ -141,6 +147,9 @@ fn read_items(field: &[u8], runs: bool, out: &mut [u16]) -> Listed
 pub fn read_list(field: &[u8], out: &mut [u16]) -> Listed
     ensures { λ r. ⌜ ListedInto false (now (field .entry)) (now (out .entry)) (now (out .exit)) r ⌝ }
 {
+    if is_dash(field) {
+        return no_entries();
+    }
     read_items(field, false, out)
 }
 
@@ -148,5 +157,8 @@ pub fn read_list(field: &[u8], out: &mut [u16]) -> Listed
 pub fn read_side(field: &[u8], out: &mut [u16]) -> Listed
     ensures { λ r. ⌜ ListedInto true (now (field .entry)) (now (out .entry)) (now (out .exit)) r ⌝ }
 {
+    if is_dash(field) {
+        return no_entries();
+    }
     read_items(field, true, out)
 }

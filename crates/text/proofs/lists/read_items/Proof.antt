@@ -5,7 +5,7 @@ use mathlib.Core.Path.{sym, _∙_}
 use native.Mathlib.Omega.{arith}
 use borrow.Author.Needs.{needs}
 use lib.ListN.{length}
-use Rattle.text.proofs.Listing.{Listing, listing-none, listing-length, listing-count, listing-more, listed-none, listed-bad, listed-last}
+use Rattle.text.proofs.Listing.{Listing, listing-none, listing-length, listing-count, listing-more, listed-bad, listed-last}
 use Rattle.text.proofs.Listing.{item-ordered, item-bounds}
 use Rattle.text.proofs.lists.read_items.Statement.{statement}
 use Rattle.text.proofs.lists.read_items.Tie as tie
@@ -16,14 +16,11 @@ Inv-loop field runs out₀ listed₀ at₀ out listed at = Listing runs field ou
 abbrev μ-loop : tie.MeasureT-loop
 μ-loop field runs out₀ listed₀ at₀ out listed at = length field - at
 
-is-dash-requires : tie.Need-is-dash-requires Inv-loop μ-loop
-is-dash-requires c κs = search needs
-
-returns : tie.Need-returns Inv-loop μ-loop
-returns c = listed-none _ _ _ (sym (c .before .is-dash .ensures) ∙ c .if1 .taken)
+no-entries-requires : tie.Need-no-entries-requires Inv-loop μ-loop
+no-entries-requires c κs = search needs
 
 loop-holds : tie.Need-loop-holds Inv-loop μ-loop
-loop-holds c = listing-none _ _ _ (sym (c .before .is-dash .ensures) ∙ c .if1 .left)
+loop-holds c = listing-none _ _ _ (c .before .before .before .pre) (c .no-entries .ensures)
 
 read-item-requires : tie.Need-read-item-requires Inv-loop μ-loop
 read-item-requires c κs = c .loop .inv .within
@@ -37,8 +34,8 @@ enum-told c = search needs
 same-length : tie.Need-same-length Inv-loop μ-loop
 same-length c = listing-length _ _ _ _ _ _ (c .before .before .before .loop .inv)
 
-returns-2 : tie.Need-returns-2 Inv-loop μ-loop
-returns-2 c = listed-bad _ _ _ _ _ _ (c .before .before .before .loop .inv) (sym (c .before .before .read-item .ensures) ∙ c .enum-told .given .1)
+returns : tie.Need-returns Inv-loop μ-loop
+returns c = listed-bad _ _ _ _ _ _ (c .before .before .before .loop .inv) (sym (c .before .before .read-item .ensures) ∙ c .enum-told .given .1)
 
 enter-requires : tie.Need-enter-requires Inv-loop μ-loop
 enter-requires c κs =
@@ -52,14 +49,14 @@ same-length-2 c =
     let entered = c .before .before .before in
     entered .enter .kept .1 .1 .1 .0 ∙ listing-length _ _ _ _ _ _ (entered .before .before .before .before .before .before .loop .inv)
 
-returns-3 : tie.Need-returns-3 Inv-loop μ-loop
-returns-3 c =
+returns-2 : tie.Need-returns-2 Inv-loop μ-loop
+returns-2 c =
     let entered = c .before .before .before in
     let item = entered .before .before .before in
     let at-loop = item .before .before .before in
     let value = sym (item .before .before .read-item .ensures) ∙ item .item .given .1 in
     let held = entered .enter .ensures _ _ (at-loop .loop .inv .holds) in
-    listed-last _ _ _ _ _ _ (at-loop .loop .inv) _ _ _ value _ _ held (c .if2 .taken)
+    listed-last _ _ _ _ _ _ (at-loop .loop .inv) _ _ _ value _ _ held (c .if1 .taken)
 
 add-at : tie.Need-add-at Inv-loop μ-loop
 add-at c =
@@ -84,7 +81,7 @@ loop-again c =
     let at-loop = item .before .before .before in
     let value = sym (item .before .before .read-item .ensures) ∙ item .item .given .1 in
     let held = entered .enter .ensures _ _ (at-loop .loop .inv .holds) in
-    listing-more _ _ _ _ _ _ (at-loop .loop .inv) _ _ _ value _ _ held (c .if2 .left)
+    listing-more _ _ _ _ _ _ (at-loop .loop .inv) _ _ _ value _ _ held (c .if1 .left)
 
 pub read-items-spec : {M : Type 1} → statement M
 read-items-spec =
@@ -92,17 +89,16 @@ read-items-spec =
     (tie.spec
     Inv-loop
     μ-loop
-    is-dash-requires
-    returns
+    no-entries-requires
     loop-holds
     read-item-requires
     enum-known-item
     enum-told
     same-length
-    returns-2
+    returns
     enter-requires
     same-length-2
-    returns-3
+    returns-2
     add-at
     loop-less
     loop-again)
