@@ -1,6 +1,6 @@
 -- Lines of any kind: what is read of one by its kind and the count of its fields, the number that it earns, what a line
 -- that is refused comes to and one that passes, and what the tables hold.
-use Prim.Native.Nat.{ℕ, zero, suc, _+_, _≤_, _<_, min}
+use Prim.Native.Nat.{ℕ, zero, suc, _+_, _%_, _≤_, _<_}
 use native.Mathlib.Omega.{arith}
 use mathlib.Core.Path.{_≡_, refl, sym, ap, ap₂, subst, _∙_}
 use mathlib.Core.Bool.{Bool, true, false, cond, true≢false, false≢true}
@@ -205,7 +205,7 @@ unfolding laidOver
 laid-part [] was narrow room = refl
 laid-part (x ∷ xs) [] narrow room = absurd (omega arith)
 laid-part (x ∷ xs) (o ∷ was) narrow room =
-    let small : min x 65535 ≡ x = omega (arith, narrow x (List·Memᴰ·head refl)) in
+    let small : x % 65536 ≡ x = omega (arith, narrow x (List·Memᴰ·head refl)) in
     ap₂ (λ (y : ℕ) (ys : List ℕ). y ∷ ys) small (laid-part xs was (λ y m. narrow y (List·Memᴰ·tail m)) (omega arith))
 
 pub list-laid : {xs table : List ℕ} {listed : Listed} (was : List ℕ) → listed ≡ listedAs (some xs) → table ≡ laidOver xs was → mostOnSide ≤ length was

@@ -1,6 +1,6 @@
 -- What the numbers of one more item do to a list, and to what its reader knows of it.
 -- Assumes nothing.
-use Prim.Native.Nat.{ℕ, zero, suc, _+_, _-_, _≤_, _<_, min, max}
+use Prim.Native.Nat.{ℕ, zero, suc, _+_, _-_, _%_, _≤_, _<_, min, max}
 use mathlib.Core.Path.{_≡_, refl, sym, ap, ap₂, _∙_}
 use mathlib.Core.Bool.{Bool, true, false, _&&_, and-true, and-false}
 use mathlib.Core.List.{List, [], _∷_, _++_, append-assoc, append-nil}
@@ -118,12 +118,12 @@ module _ (first last : ℕ) (ordered : first ≤ last) (listed : Listed) (count 
 
 -- ---- what is stored
 
-laid-last : (xs : List ℕ) (n : ℕ) (was : List ℕ) → laidOver (xs ++ n ∷ []) was ≡ set (laidOver xs was) (length xs) (min n 65535)
+laid-last : (xs : List ℕ) (n : ℕ) (was : List ℕ) → laidOver (xs ++ n ∷ []) was ≡ set (laidOver xs was) (length xs) (n % 65536)
 unfolding laidOver
 laid-last [] n [] = refl
 laid-last [] n (o ∷ was) = refl
 laid-last (x ∷ xs) n [] = refl
-laid-last (x ∷ xs) n (o ∷ was) = ap (λ l. min x 65535 ∷ l) (laid-last xs n was)
+laid-last (x ∷ xs) n (o ∷ was) = ap (λ l. x % 65536 ∷ l) (laid-last xs n was)
 
 pub laid-length : (xs was : List ℕ) → length (laidOver xs was) ≡ length was
 unfolding laidOver
@@ -143,17 +143,17 @@ laid-more xs (y ∷ ys) was =
 pub laid-past : (table : List ℕ) (at : ℕ) (xs : List ℕ) → length table ≤ at → laidAt table at xs ≡ table
 unfolding laidAt
 laid-past table at [] h = refl
-laid-past table at (x ∷ xs) h = ap (λ t. laidAt t (at + 1) xs) (set-out table at (min x 65535) h) ∙ laid-past table (at + 1) xs (omega arith)
+laid-past table at (x ∷ xs) h = ap (λ t. laidAt t (at + 1) xs) (set-out table at (x % 65536) h) ∙ laid-past table (at + 1) xs (omega arith)
 
 laid-first : (table : List ℕ) (at first last : ℕ) → first ≤ last
-    → laidAt table at (spanned first last) ≡ laidAt (set table at (min first 65535)) (at + 1) (spanned (first + 1) last)
+    → laidAt table at (spanned first last) ≡ laidAt (set table at (first % 65536)) (at + 1) (spanned (first + 1) last)
 unfolding laidAt
 laid-first table at first last h =
     let same : last - first ≡ last + 1 - (first + 1) = omega arith in
-    ap (laidAt table at) (spanned-cons first last h) ∙ ap (λ k. laidAt (set table at (min first 65535)) (at + 1) (upFrom (first + 1) k)) same
+    ap (laidAt table at) (spanned-cons first last h) ∙ ap (λ k. laidAt (set table at (first % 65536)) (at + 1) (upFrom (first + 1) k)) same
 
 -- one number
-laid-one : (table : List ℕ) (at first last : ℕ) → first ≡ last → set table at (min first 65535) ≡ laidAt table at (spanned first last)
+laid-one : (table : List ℕ) (at first last : ℕ) → first ≡ last → set table at (first % 65536) ≡ laidAt table at (spanned first last)
 unfolding laidAt
 laid-one table at first last h = ap (laidAt table at) (sym (spanned-one first)) ∙ ap (λ n. laidAt table at (spanned first n)) h
 
@@ -167,20 +167,20 @@ module _ (was : List ℕ) (at first last : ℕ) (out : List ℕ) (place n : ℕ)
   pub stored-past : length out ≤ place → out ≡ laidAt was at (spanned first last)
   stored-past h = sym (s .rest ∙ laid-past out place (spanned n last) h)
 
-  module _ (v : ℕ) (capped : v ≡ min n 65535) where
+  module _ (v : ℕ) (narrowed : v ≡ n % 65536) where
     pub storing-length : length (set out place v) ≡ length was
     storing-length = length-set out place v ∙ s .kept
 
     pub stored-last : n ≡ last → set out place v ≡ laidAt was at (spanned first last)
     stored-last h =
-        ap (set out place) capped ∙ laid-one out place n last h ∙ sym (s .rest)
+        ap (set out place) narrowed ∙ laid-one out place n last h ∙ sym (s .rest)
 
     pub storing-more : (n ≡ last → ⊥) → Storing was at first last (set out place v) (place + 1) (n + 1)
     storing-more h =
         record {
           ordered = omega (arith, lt-of-le-of-ne (s .ordered) h);
           kept = storing-length;
-          rest = s .rest ∙ laid-first out place n last (s .ordered) ∙ ap (λ m. laidAt (set out place m) (place + 1) (spanned (n + 1) last)) (sym capped);
+          rest = s .rest ∙ laid-first out place n last (s .ordered) ∙ ap (λ m. laidAt (set out place m) (place + 1) (spanned (n + 1) last)) (sym narrowed);
         }
 
 pub run-more : (first last : ℕ) (xs was is is′ : List ℕ) (listed r : Listed) → length is ≤ mostCounted → HeldList xs was is listed
@@ -205,7 +205,7 @@ run-more first last xs was is is′ listed r short h stored known =
 
 -- a run of one number
 pub number-more : (first last : ℕ) → first ≡ last → (xs was is is′ : List ℕ) (listed r : Listed) → length is ≤ mostCounted → HeldList xs was is listed
-    → is′ ≡ set is (listed .count) (min first 65535) → (listed ≡ listedAs (some xs) → r ≡ listedAs (some (xs ++ spanned first first)))
+    → is′ ≡ set is (listed .count) (first % 65536) → (listed ≡ listedAs (some xs) → r ≡ listedAs (some (xs ++ spanned first first)))
     → HeldList (xs ++ spanned first last) was is′ r
 number-more first last same xs was is is′ listed r short h stored known =
     run-more first last xs was is is′ listed r short h (stored ∙ laid-one is (listed .count) first last same)

@@ -1,5 +1,5 @@
 -- What the readers of a list answer and store, as a function of what the field writes (`Rattle.format.specs.Text`).
-use Prim.Native.Nat.{ℕ, _+_, _-_, min, max}
+use Prim.Native.Nat.{ℕ, _+_, _-_, _%_, min, max}
 use mathlib.Core.Path.{_≡_}
 use mathlib.Core.Bool.{Bool, true, false, cond}
 use mathlib.Core.List.{List, [], _∷_, _++_}
@@ -19,11 +19,11 @@ unfoldable pub above : List ℕ → ℕ
 above [] = 0
 above (x ∷ xs) = max (x + 1) (above xs)
 
--- numbers in the place of a table's first entries, as far as it is long; one that is over 65,535 as 65,535
+-- numbers in the place of a table's first entries, as far as it is long; of one that is over 65,535 what 16 bits hold
 unfoldable pub laidOver : List ℕ → List ℕ → List ℕ
 laidOver [] out = out
 laidOver (x ∷ xs) [] = []
-laidOver (x ∷ xs) (o ∷ out) = min x 65535 ∷ laidOver xs out
+laidOver (x ∷ xs) (o ∷ out) = x % 65536 ∷ laidOver xs out
 
 abbrev pub listedAs : Option (List ℕ) → Listed
 listedAs none = record { well = false; count = 0; above = 0; rising = false }
@@ -71,7 +71,7 @@ spanned first last = upFrom first (last + 1 - first)
 -- numbers stored from a place on
 unfoldable pub laidAt : List ℕ → ℕ → List ℕ → List ℕ
 laidAt table at [] = table
-laidAt table at (x ∷ xs) = laidAt (set table at (min x 65535)) (at + 1) xs
+laidAt table at (x ∷ xs) = laidAt (set table at (x % 65536)) (at + 1) xs
 
 -- an answer and a table that hold these entries, where the table held others before
 pub record HeldList (xs was is : List ℕ) (r : Listed) : Type 0 where

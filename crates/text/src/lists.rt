@@ -3,7 +3,7 @@ ghost use mathlib.Core.Path.{_≡_};
 ghost use mathlib.Core.Bool.{true, false};
 ghost use mathlib.Core.List.{List, [], _++_};
 ghost use mathlib.Core.Option.{some};
-ghost use Prim.Native.Nat.{ℕ, _+_, _-_, _≤_, min, max};
+ghost use Prim.Native.Nat.{ℕ, _+_, _-_, _≤_, _%_, min, max};
 ghost use lib.ListN.{set};
 ghost use Rattle.format.specs.Text.{is};
 ghost use Rattle.text.specs.Lists.{mostCounted, spanned, laidAt, listedAs, ListedInto, HeldList};
@@ -57,21 +57,18 @@ fn entered(listed: Listed, first: u32, last: u32) -> Listed
     }
 }
 
-fn capped(n: u32) -> u16
-    ensures { λ r. ⌜ r ≡ min n 65535 ⌝ }
+fn narrow(n: u32) -> u16
+    ensures { λ r. ⌜ r ≡ n % 65536 ⌝ }
 {
-    if n < 65536 {
-        return n as u16;
-    }
-    65535
+    (n % 65536) as u16
 }
 
 // A number is stored as far as the table is long.
 fn store(out: &mut [u16], at: usize, n: u32)
-    ensures { λ r. ⌜ now (out .exit) ≡ set (now (out .entry)) at (min n 65535) ⌝ }
+    ensures { λ r. ⌜ now (out .exit) ≡ set (now (out .entry)) at (n % 65536) ⌝ }
 {
     if at < out.len() {
-        out[at] = capped(n);
+        out[at] = narrow(n);
     }
 }
 
@@ -83,7 +80,7 @@ fn store_run(out: &mut [u16], at: usize, first: u32, last: u32)
     let mut place = at;
     let mut n = first;
     while place < out.len() {
-        out[place] = capped(n);
+        out[place] = narrow(n);
         if n == last {
             return;
         }

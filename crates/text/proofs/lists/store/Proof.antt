@@ -5,8 +5,8 @@ use lib.Seq.{set-out}
 use Rattle.text.proofs.lists.store.Statement.{statement}
 use Rattle.text.proofs.lists.store.Tie as tie
 
-capped-requires : tie.Need-capped-requires
-capped-requires c κs = search needs
+narrow-requires : tie.Need-narrow-requires
+narrow-requires c κs = search needs
 
 mul-out : tie.Need-mul-out
 mul-out c = search needs
@@ -24,4 +24,4 @@ returns-2 : tie.Need-returns-2
 returns-2 c = sym (set-out _ _ _ (c .if1 .left))
 
 pub store-spec : {M : Type 1} → statement M
-store-spec = tie.close (tie.spec capped-requires mul-out slice-write-out same-length returns returns-2)
+store-spec = tie.close (tie.spec narrow-requires mul-out slice-write-out same-length returns returns-2)

@@ -18,8 +18,8 @@ abbrev μ-loop : tie.MeasureT-loop
 loop-holds : tie.Need-loop-holds Inv-loop μ-loop
 loop-holds c = record { ordered = c .before .pre; kept = refl; rest = refl }
 
-capped-requires : tie.Need-capped-requires Inv-loop μ-loop
-capped-requires c κs = search needs
+narrow-requires : tie.Need-narrow-requires Inv-loop μ-loop
+narrow-requires c κs = search needs
 
 mul-out : tie.Need-mul-out Inv-loop μ-loop
 mul-out c = search needs
@@ -28,10 +28,10 @@ slice-write-out : tie.Need-slice-write-out Inv-loop μ-loop
 slice-write-out c = c .before .loop-test .taken
 
 same-length : tie.Need-same-length Inv-loop μ-loop
-same-length c = storing-length _ _ _ _ _ _ _ (c .before .before .before .loop .inv) _ (c .before .capped .ensures)
+same-length c = storing-length _ _ _ _ _ _ _ (c .before .before .before .loop .inv) _ (c .before .narrow .ensures)
 
 returns : tie.Need-returns Inv-loop μ-loop
-returns c = stored-last _ _ _ _ _ _ _ (c .before .before .before .loop .inv) _ (c .before .capped .ensures) (c .if1 .taken)
+returns c = stored-last _ _ _ _ _ _ _ (c .before .before .before .loop .inv) _ (c .before .narrow .ensures) (c .if1 .taken)
 
 add-n : tie.Need-add-n Inv-loop μ-loop
 add-n c =
@@ -49,7 +49,7 @@ loop-less c =
     omega (arith, c .before .before .loop-test .taken, at-loop .loop .inv .kept)
 
 loop-again : tie.Need-loop-again Inv-loop μ-loop
-loop-again c = storing-more _ _ _ _ _ _ _ (c .before .before .before .loop .inv) _ (c .before .capped .ensures) (c .if1 .left)
+loop-again c = storing-more _ _ _ _ _ _ _ (c .before .before .before .loop .inv) _ (c .before .narrow .ensures) (c .if1 .left)
 
 same-length-2 : tie.Need-same-length-2 Inv-loop μ-loop
 same-length-2 c = c .before .loop .inv .kept
@@ -64,7 +64,7 @@ store-run-spec =
     Inv-loop
     μ-loop
     loop-holds
-    capped-requires
+    narrow-requires
     mul-out
     slice-write-out
     same-length
