@@ -1,15 +1,17 @@
--- What a number is made of; and a plain list, as a side, means what it meant before there were runs.
-use Prim.Native.Nat.{ℕ, _≤_}
+-- What a number is made of; a plain list, as a side, means what it meant before there were runs; and what a run means.
+use Prim.Native.Nat.{ℕ, zero, suc, _+_, _-_, _≤_, _<_}
 use mathlib.Core.Path.{_≡_, refl, sym, ap, ap₂, _∙_}
 use mathlib.Core.Bool.{Bool, true, false, not, cond, _&&_, true≢false, false≢true}
-use mathlib.Core.List.{List, [], _∷_}
+use mathlib.Core.List.{List, [], _∷_, List·Memᴰ·head, List·Memᴰ·tail, List·Memᴰ·not-nil, List·Memᴰ·cases-cons}
+use mathlib.Core.Logic.{⊎-elim, _↔_}
 use mathlib.Core.Option.{Option, none, some}
 use native.Mathlib.Omega.{arith}
-use lib.Dec.{leb}
+use lib.Dec.{ltb, leb}
 use lib.ListN.{length}
-use borrow.Author.Tests.{leb-true, ne-eqb}
+use borrow.Author.Tests.{leb-true, ltb-true, ltb-false, ne-eqb}
+use Rattle.equilibrium.specs.Meaning.{_∈_}
 use Rattle.format.specs.Text.{Bytes, comma, hyphen, all, each, is, isDigit, leadingZero, valueFrom, onlyIf, numberOf, listOf, partsAt, _<$>_, _<*>_}
-use Rattle.format.specs.Text.{Item, isOrdered, passing, itemFrom, itemOf, itemsOf, writtenOut, sideOf}
+use Rattle.format.specs.Text.{Item, isOrdered, passing, itemFrom, itemOf, itemsOf, upFrom, meantBy, writtenOut, sideOf}
 use Rattle.format.proofs.Booleans.{and-true}
 use Rattle.format.proofs.Joined.{Without, parts-one}
 
@@ -97,3 +99,25 @@ side-kept field ns e = by-test (is "-" field) e
         → (writtenOut <$> cond t (some []) (each itemOf (partsAt comma field))) ≡ some ns
     by-test true k = k
     by-test false k = ap (λ (o : Option (List Item)). writtenOut <$> o) (each-item (partsAt comma field) ns k) ∙ ap some (ones-meant ns)
+
+-- ---- what a run means
+
+up-members : (k first i : ℕ) → (i ∈ upFrom first k) ↔ ((first ≤ i) × (i < first + k))
+unfolding upFrom
+up-members zero first i = (λ m. absurd (List·Memᴰ·not-nil m), λ (h : (first ≤ i) × (i < first + 0)). absurd (omega arith))
+up-members (suc k) first i = (to (up-members k (first + 1) i .0), from (ltb first i) refl (up-members k (first + 1) i .1))
+  where
+    to : (i ∈ upFrom (first + 1) k → (first + 1 ≤ i) × (i < first + 1 + k)) → i ∈ first ∷ upFrom (first + 1) k → (first ≤ i) × (i < first + suc k)
+    to later m = ⊎-elim (λ (e : i ≡ first). omega arith) (λ n. omega (arith, later n)) (List·Memᴰ·cases-cons m)
+
+    from : (t : Bool) → ltb first i ≡ t → ((first + 1 ≤ i) × (i < first + 1 + k) → i ∈ upFrom (first + 1) k)
+        → (first ≤ i) × (i < first + suc k) → i ∈ first ∷ upFrom (first + 1) k
+    from true e later h = List·Memᴰ·tail (later (omega (arith, ltb-true first i e)))
+    from false e later h = let same : i ≡ first = omega (arith, ltb-false first i e) in List·Memᴰ·head same
+
+-- all numbers from its first to its last, and no others
+pub run-members : (first last i : ℕ) → isOrdered (Item.run first last) ≡ true → (i ∈ meantBy (Item.run first last)) ↔ ((first ≤ i) × (i ≤ last))
+run-members first last i e =
+    let below = ltb-true first last e in
+    let members = up-members (last + 1 - first) first i in
+    (λ m. omega (arith, members .0 m), λ (h : (first ≤ i) × (i ≤ last)). members .1 (omega arith))
