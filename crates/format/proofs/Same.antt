@@ -234,7 +234,7 @@ finish-same (next f) [] (b ∷ bs) n h = let k : _≡_ {A = Bytes} (b ∷ bs) []
 finish-same (next f) (a ∷ cs) [] n h = let k : _≡_ {A = Bytes} (a ∷ cs) [] = h .1 refl in let z : _≡_ {A = ℕ} 0 1 = cc in absurd (omega arith)
 finish-same (next f) (a ∷ cs) (b ∷ bs) n h = refl
 
-beginning-same : (one other : Bytes) → MeanTheSame one other → beginning one ≡ beginning other
+pub beginning-same : (one other : Bytes) → MeanTheSame one other → beginning one ≡ beginning other
 unfolding beginning
 beginning-same one other s = run-same (linesOf one .complete) (linesOf other .complete) noFile top top (record { line = refl; start = λ h. refl }) (s .lines)
 

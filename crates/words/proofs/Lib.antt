@@ -10,4 +10,5 @@ pub mod NoZero
 pub mod Accepted
 pub mod Call
 pub mod LentText
+pub mod Same
 pub mod Examples
