@@ -60,7 +60,8 @@ module _ {text : Bytes} {f : File} {s : State} {t : Memory} (stored : Stored tex
   tests-same xs ys =
       ap₂ (λ (a b : Bool). (4 when a) ∷ (7 when b) ∷ (9 when badOf (listedAs (some xs)) || badOf (listedAs (some ys))) ∷ lastTests f xs ys)
       (turn-same (f .stage) claimed (stored .stage)) (ap₂ _||_ (past-same xs) (past-same ys))
-      ∙ ap (λ (b : Bool). (4 when not (mayFollow (f .stage) claimed)) ∷ (7 when unknownFormula (f .body) xs || unknownFormula (f .body) ys) ∷ (9 when b) ∷ lastTests f xs ys)
+      ∙ ap (λ (b : Bool). (4 when not (mayFollow (f .stage) claimed)) ∷ (7 when unknownFormula (f .body) xs || unknownFormula (f .body) ys)
+      ∷ (9 when b) ∷ lastTests f xs ys)
       (ap₂ _||_ (bad-listed xs) (bad-listed ys))
 
   module _ {xs ys l r : List ℕ} {left right : Listed} (x : Laid xs left l) (y : Laid ys right r) (k : ℕ) (e : numbered k ≡ first (claimOf left right s)) where

@@ -3,6 +3,7 @@ pub mod LineLaws
 mod AtomLines
 mod FormulaFields
 mod FormulaLines
+mod RowFields
 mod RowLines
 mod ModelLines
 mod ClaimLines

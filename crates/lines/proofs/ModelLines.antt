@@ -14,7 +14,7 @@ use Rattle.format.specs.Text.{Bytes, any, fieldsOf, sideOf, strictlyRising}
 use Rattle.format.specs.File.{Model, modelled, File}
 use Rattle.format.specs.Line.{lineOf}
 use Rattle.format.specs.Tables.{mostOnSide}
-use Rattle.format.specs.Tests.{_when_, first, mayFollow, notEarlier, badSide, modelLineTests}
+use Rattle.format.specs.Tests.{_when_, first, mayFollow, notEarlier, modelLineTests}
 use Rattle.format.specs.Judged.{settled, withModel}
 use Rattle.format.specs.Good.{Good}
 use Rattle.format.proofs.Booleans as booleans

@@ -145,7 +145,8 @@ next-same separator bs start later f l h =
     not-before : (b : Bool) → ltb (nextAt separator bs later) (length bs) ≡ b → nextAt separator bs start ≤ nextAt separator bs later
     not-before true e =
         let inside = ltb-true _ _ e in
-        next-least separator bs start (nextAt separator bs later) (omega (arith, next-bounds separator bs later h)) inside (next-found separator bs later h inside)
+        let from-start : start ≤ nextAt separator bs later = omega (arith, next-bounds separator bs later h) in
+        next-least separator bs start (nextAt separator bs later) from-start inside (next-found separator bs later h inside)
     not-before false e = omega (arith, ltb-false (nextAt separator bs later) (length bs) e, next-bounds separator bs start (omega arith))
 
     not-after : (b : Bool) → ltb (nextAt separator bs start) (length bs) ≡ b → nextAt separator bs later ≤ nextAt separator bs start

@@ -4,21 +4,16 @@ use Prim.Native.Nat.{ℕ, zero, suc, _+_, _-_, _%_, _≤_, _<_, min, max}
 use mathlib.Core.Path.{_≡_, refl, sym, ap, ap₂, _∙_}
 use mathlib.Core.Bool.{Bool, true, false, _&&_, and-true, and-false}
 use mathlib.Core.List.{List, [], _∷_, _++_, append-assoc, append-nil}
-use mathlib.Core.Option.{Option, none, some}
+use mathlib.Core.Option.{some}
 use native.Mathlib.Numerals.{lt-of-le-of-ne}
 use native.Mathlib.Omega.{arith}
 use lib.Dec.{ltb, leb}
-use lib.ListN.{length, drop, set, length-append, length-set}
+use lib.ListN.{length, set, length-append, length-set}
 use lib.Seq.{set-out}
 use borrow.Author.Tests.{lt-ltb, le-ltb, ltb-true, ltb-false, leb-true, leb-false}
-use Rattle.format.specs.Text.{Bytes, comma, partsAt, each, is, Item, meantBy, upFrom, writtenOut, itemsOf, sideOf, listOf, numberOf, strictlyRising, _<$>_, _<*>_}
-use Rattle.parts.specs.Refusals.{badIfNone}
-use Rattle.parts.specs.Parts.{nextAt}
-use Rattle.text.specs.Items.{itemBy, spanAs, partAt, itemAt}
-use Rattle.text.specs.Lists.{mostCounted, above, laidOver, laidAt, spanned, listedAs, ListedInto, HeldList, listRefusal, listBy, leads, itemsAhead, entriesOf}
-use Rattle.text.specs.declared.items.Span.{Span}
+use Rattle.format.specs.Text.{upFrom, strictlyRising}
+use Rattle.text.specs.Lists.{mostCounted, above, laidOver, laidAt, spanned, listedAs, HeldList}
 use Rattle.text.specs.declared.lists.Listed.{Listed}
-use Rattle.parts.proofs.PartLaws.{next-bounds, next-part, last-part, first-part}
 
 -- ---- all numbers from one to another
 

@@ -8,12 +8,12 @@ use mathlib.Core.Option.{Option, none, some}
 use native.Mathlib.Numerals.{lt-of-le-of-ne}
 use native.Mathlib.Omega.{arith}
 use lib.ListN.{length, drop}
-use Rattle.format.specs.Text.{Bytes, comma, partsAt, each, is, Item, meantBy, writtenOut, itemsOf, sideOf, listOf, numberOf, strictlyRising, _<$>_, _<*>_}
+use Rattle.format.specs.Text.{Bytes, comma, partsAt, each, is, Item, meantBy, writtenOut, itemsOf, sideOf, listOf, numberOf, _<$>_, _<*>_}
 use Rattle.parts.specs.Refusals.{badIfNone}
 use Rattle.parts.specs.Parts.{nextAt}
 use Rattle.parts.proofs.PartLaws.{next-bounds, next-part, last-part, first-part}
 use Rattle.text.specs.Items.{itemBy, partAt, itemAt}
-use Rattle.text.specs.Lists.{mostCounted, above, laidOver, spanned, listedAs, ListedInto, HeldList, listRefusal, listBy, leads, itemsAhead, entriesOf}
+use Rattle.text.specs.Lists.{mostCounted, laidOver, spanned, listedAs, ListedInto, HeldList, listRefusal, listBy, leads, itemsAhead, entriesOf}
 use Rattle.text.specs.declared.items.Span.{Span}
 use Rattle.text.specs.declared.lists.Listed.{Listed}
 use Rattle.text.proofs.ItemLaws.{was-span, was-no-span, span-ordered}

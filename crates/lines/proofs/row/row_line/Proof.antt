@@ -4,7 +4,7 @@ use borrow.Author.Tests.{not-true, not-false}
 use lib.Dec.{lit≤}
 use Rattle.lines.specs.RowLines.{withRows}
 use Rattle.lines.proofs.LineLaws.{line-no-row, line-bad}
-use Rattle.lines.proofs.RowLines.{row-unread, row-found}
+use Rattle.lines.proofs.RowFields.{row-unread, row-found}
 use borrow.Author.Needs.{needs}
 use Rattle.lines.proofs.row.row_line.Statement.{statement}
 use Rattle.lines.proofs.row.row_line.Tie as tie

@@ -76,8 +76,9 @@ returns-6 c =
     let called = number .before .before in
     let value = sym (called .number-at .ensures) ∙ number .number .given .1 in
     let inside = tested .before .before .before .before .if1 .left in
+    let on = not-false _ (tested .if4 .left) in
     c .read-run .ensures
-    ∙ item-run _ _ (called .before .before .pre) _ _ value inside (tested .before .before .if2 .left) _ (not-false _ (tested .if4 .left)) (tested .before .if3 .left)
+    ∙ item-run _ _ (called .before .before .pre) _ _ value inside (tested .before .before .if2 .left) _ on (tested .before .if3 .left)
 
 pub read-item-spec : {M : Type 1} → statement M
 read-item-spec =
