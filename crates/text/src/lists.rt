@@ -57,6 +57,7 @@ fn entered(listed: Listed, first: u32, last: u32) -> Listed
     }
 }
 
+// What 16 bits hold of a number.
 fn narrow(n: u32) -> u16
     ensures { λ r. ⌜ r ≡ n % 65536 ⌝ }
 {
