@@ -19,7 +19,7 @@ use Rattle.elk.specs.Instance.{Rising}
 use Rattle.atomset.specs.AtomSet.{has, Member, consIf, membersFrom, members}
 use Rattle.atomset.proofs.Digits.{half-lt, low-cases, has-zero, has-power}
 use Rattle.atomset.proofs.Membership.{member-lt, member-difference}
-use Rattle.atomset.proofs.Rising.{rising-cons, rising-unique}
+use Rattle.elk.proofs.Rising.{rising-cons, rising-unique}
 
 -- ---- the list
 

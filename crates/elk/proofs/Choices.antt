@@ -8,7 +8,8 @@ use mathlib.Core.Logic.{_↔_}
 use Rattle.equilibrium.specs.Formula.{Formula, atomsOf, atomsIn}
 use Rattle.equilibrium.specs.Meaning.{_∈_, Holds, AllHold}
 use Rattle.elk.specs.Instance.{Choice, domain, chosen, literal, fixed, joined, Rising}
-use Rattle.elk.proofs.RisingAtoms.{rising-tail, rising-apart}
+use Rattle.elk.proofs.Rising.{rising-rest}
+use Rattle.elk.proofs.RisingAtoms.{rising-apart}
 
 -- V is the atoms of the entries
 pub in-domain : (c : Choice) (p : ℕ) → p ∈ domain c → (b : Bool) × ((p, b) ∈ c)
@@ -39,7 +40,7 @@ one-entry : (c : Choice) → Rising (domain c) → {p : ℕ} {a b : Bool} → (p
 one-entry (e ∷ c) r (List·Memᴰ·head k) (List·Memᴰ·head j) = snd-path (k ∙ sym j)
 one-entry (e ∷ c) r (List·Memᴰ·head k) (List·Memᴰ·tail n) = absurd (rising-apart (e .0) (domain c) r (fst-path k) (entry-in-domain c n))
 one-entry (e ∷ c) r (List·Memᴰ·tail m) (List·Memᴰ·head j) = absurd (rising-apart (e .0) (domain c) r (fst-path j) (entry-in-domain c m))
-one-entry (e ∷ c) r (List·Memᴰ·tail m) (List·Memᴰ·tail n) = one-entry c (rising-tail (e .0) (domain c) r) m n
+one-entry (e ∷ c) r (List·Memᴰ·tail m) (List·Memᴰ·tail n) = one-entry c (rising-rest (e .0) (domain c) r) m n
 
 -- S satisfies p for the p in S and ~p for the others
 pub literal-holds : (c : Choice) → Rising (domain c) → (e : ℕ × Bool) → e ∈ c → Holds (chosen c) (chosen c) (literal e)

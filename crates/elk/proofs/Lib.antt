@@ -1,6 +1,7 @@
 -- The laws of the calculus: soundness, completeness and the main theorem; the decision of instances, and rows that show
 -- the table of rules to be 01's.
 pub mod Sides
+pub mod Rising
 pub mod RisingAtoms
 pub mod Choices
 pub mod Steps

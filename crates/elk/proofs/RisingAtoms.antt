@@ -2,30 +2,18 @@
 use Prim.Native.Nat.{ℕ, _<_}
 use native.Mathlib.Omega.{arith}
 use native.Mathlib.Decide.{ℕ-discrete, decLt}
-use mathlib.Core.Path.{_≡_, refl}
-use mathlib.Core.List.{List, [], _∷_, List·Memᴰ·head, List·Memᴰ·tail, List·Memᴰ·cases-cons}
+use mathlib.Core.Path.{_≡_}
+use mathlib.Core.List.{List, [], _∷_, List·Memᴰ·head, List·Memᴰ·cases-cons}
 use mathlib.Core.Logic.{⊎-elim, dite}
 use Rattle.equilibrium.specs.Meaning.{_∈_, _≈_}
 use Rattle.equilibrium.proofs.Sets.{≈-refl, ≈-sym, ≈-trans}
 use Rattle.elk.specs.Instance.{Rising}
+use Rattle.elk.proofs.Rising.{rising-cons, rising-rest, rising-below}
 use Rattle.elk.proofs.Sides.{cons-same, cons-again, cons-swap}
-
-pub rising-tail : (p : ℕ) (ps : List ℕ) → Rising (p ∷ ps) → Rising ps
-rising-tail p [] r = tt
-rising-tail p (q ∷ qs) r = r .1
-
--- the first is below all others
-rising-least : (p : ℕ) (ps : List ℕ) → Rising (p ∷ ps) → {q : ℕ} → q ∈ ps → p < q
-rising-least p (s ∷ ss) r (List·Memᴰ·head e) = rw e (r .0)
-rising-least p (s ∷ ss) r (List·Memᴰ·tail m) = let h = rising-least s ss (r .1) m in omega (arith, r .0)
 
 -- the first is not among the others
 pub rising-apart : (p : ℕ) (ps : List ℕ) → Rising (p ∷ ps) → {q : ℕ} → q ≡ p → q ∈ ps → ⊥
-rising-apart p ps r e m = let h = rising-least p ps r m in omega arith
-
-rising-cons : (p : ℕ) (ps : List ℕ) → ((q : ℕ) → q ∈ ps → p < q) → Rising ps → Rising (p ∷ ps)
-rising-cons p [] h r = tt
-rising-cons p (q ∷ qs) h r = (h q (List·Memᴰ·head refl), r)
+rising-apart p ps r {q} e m = let h = rising-below p ps r q m in omega arith
 
 -- a rising list with the same members
 abbrev pub InOrder : List ℕ → Type 0
@@ -36,12 +24,12 @@ put : (p : ℕ) (qs : List ℕ) → Rising qs → InOrder (p ∷ qs)
 put p [] r = (p ∷ [], tt, ≈-refl)
 put p (q ∷ qs) r =
     dite (decLt p q) (λ below. (p ∷ q ∷ qs, (below, r), ≈-refl))
-    (λ n. dite (ℕ-discrete p q) (λ e. (q ∷ qs, r, ≈-sym (cons-again (List·Memᴰ·head e)))) (λ k. later n k (put p qs (rising-tail q qs r))))
+    (λ n. dite (ℕ-discrete p q) (λ e. (q ∷ qs, r, ≈-sym (cons-again (List·Memᴰ·head e)))) (λ k. later n k (put p qs (rising-rest q qs r))))
   where
     later : (p < q → ⊥) → (p ≡ q → ⊥) → InOrder (p ∷ qs) → InOrder (p ∷ q ∷ qs)
     later n k o = (
       q ∷ o .0,
-      rising-cons q (o .0) (λ s m. ⊎-elim (λ (e : s ≡ p). omega arith) (rising-least q qs r) (List·Memᴰ·cases-cons (o .2 .0 s m))) (o .1),
+      rising-cons q (o .0) (λ s m. ⊎-elim (λ (e : s ≡ p). omega arith) (rising-below q qs r s) (List·Memᴰ·cases-cons (o .2 .0 s m))) (o .1),
       ≈-trans (cons-same (o .2)) cons-swap,
     )
 

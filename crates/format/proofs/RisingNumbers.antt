@@ -1,14 +1,24 @@
--- The numbers that have a property, in strictly rising order: a side as 01 asks it to be written.
+-- Strictly rising lists, by test and by type; the numbers that have a property, in that order: a side as 01 asks it to be written.
 use Prim.Native.Nat.{ℕ, zero, suc, _+_, _≤_, _<_}
 use mathlib.Core.Path.{_≡_, refl, sym, subst}
 use mathlib.Core.Bool.{true}
 use mathlib.Core.List.{List, [], _∷_, List·Memᴰ·head, List·Memᴰ·tail, List·Memᴰ·not-nil, List·Memᴰ·cases-cons}
 use mathlib.Core.Logic.{_↔_, ⊎-elim}
 use native.Mathlib.Omega.{arith}
-use borrow.Author.Tests.{lt-ltb}
+use lib.Dec.{ltb}
+use borrow.Author.Tests.{lt-ltb, ltb-true}
 use Rattle.equilibrium.specs.Meaning.{_∈_}
+use Rattle.elk.specs.Instance.{Rising}
 use Rattle.format.specs.Text.{strictlyRising}
+use Rattle.format.proofs.Booleans.{and-true}
 use Rattle.format.proofs.GoodBodies.{at-end}
+
+-- a list that passes the test rises
+pub rising-of : (xs : List ℕ) → strictlyRising xs ≡ true → Rising xs
+unfolding strictlyRising
+rising-of [] e = tt
+rising-of (x ∷ []) e = tt
+rising-of (x ∷ y ∷ ys) e = let both = and-true (ltb x y) (strictlyRising (y ∷ ys)) e in (ltb-true x y (both .0), rising-of (y ∷ ys) (both .1))
 
 abbrev put : {P : Type 0} → Dec P → ℕ → List ℕ → List ℕ
 put (yes h) i is = i ∷ is

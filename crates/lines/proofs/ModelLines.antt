@@ -7,9 +7,8 @@ use mathlib.Core.List.{List, [], _∷_, Memᴰ·cast}
 use mathlib.Core.Option.{Option, none, some}
 use lib.Dec.{eqb, ltb}
 use lib.ListN.{length, getD, take}
-use borrow.Author.Tests.{eqb-true, eq-eqb, lt-ltb, ltb-true, ltb-false, leb-false}
+use borrow.Author.Tests.{eqb-true, eq-eqb, lt-ltb, ltb-false, leb-false}
 use Rattle.equilibrium.specs.Meaning.{_∈_}
-use Rattle.elk.specs.Instance.{Rising}
 use Rattle.format.specs.Text.{Bytes, any, fieldsOf, sideOf, strictlyRising}
 use Rattle.format.specs.File.{Model, modelled, File}
 use Rattle.format.specs.Line.{lineOf}
@@ -18,6 +17,7 @@ use Rattle.format.specs.Tests.{_when_, first, mayFollow, notEarlier, modelLineT
 use Rattle.format.specs.Judged.{settled, withModel}
 use Rattle.format.specs.Good.{Good}
 use Rattle.format.proofs.Booleans as booleans
+use Rattle.format.proofs.RisingNumbers.{rising-of}
 use Rattle.format.proofs.Tested.{passes}
 use Rattle.format.proofs.Stepping.{step-model}
 use Rattle.format.proofs.GoodBodies.{good-held}
@@ -45,16 +45,10 @@ use Rattle.state.proofs.Order.{turn-same}
 abbrev pub entered : ℕ → ℕ → Bool
 entered p x = eqb p x && ltb x 64
 
-rises : (xs : List ℕ) → strictlyRising xs ≡ true → Rising xs
-unfolding strictlyRising
-rises [] e = tt
-rises (x ∷ []) e = tt
-rises (x ∷ y ∷ ys) e = let both = booleans.and-true (ltb x y) _ e in (ltb-true x y (both .0), rises (y ∷ ys) (both .1))
-
 -- of a strictly rising list of atoms below 64 it has exactly these members, in the list's order
 word-members : (xs : List ℕ) (w : ℕ) → WordRead xs w → strictlyRising xs ≡ true → ((x : ℕ) → x ∈ xs → x < 64) → members w ≡ xs
 word-members xs w read e small =
-    members-unique w xs (read .small) (rises xs e)
+    members-unique w xs (read .small) (rising-of xs e)
     (λ p. (λ h. listed p (any-iff (entered p) xs .0 (sym (read .its p) ∙ h)), λ m. read .its p ∙ any-iff (entered p) xs .1 (p, m, found p (small p m))))
   where
     listed : (p : ℕ) → (x : ℕ) × (x ∈ xs) × (entered p x ≡ true) → p ∈ xs

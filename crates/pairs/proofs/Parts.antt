@@ -14,7 +14,7 @@ use Rattle.equilibrium.specs.Meaning.{_∈_, _⊆_, _≈_}
 use Rattle.equilibrium.proofs.Sets.{dec-in}
 use Rattle.elk.specs.Instance.{Rising}
 use Rattle.atomset.specs.AtomSet.{has, consIf}
-use Rattle.atomset.proofs.Rising.{rising-rest, rising-below}
+use Rattle.elk.proofs.Rising.{rising-rest, rising-below}
 use Rattle.pairs.specs.Parts.{part}
 
 -- a digit before a number

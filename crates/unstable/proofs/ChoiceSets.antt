@@ -10,7 +10,7 @@ use Rattle.equilibrium.specs.Meaning.{_∈_, _⊆_}
 use Rattle.equilibrium.proofs.Satisfaction.{occurs}
 use Rattle.elk.specs.Instance.{domain, chosen, put, fixed}
 use Rattle.elk.specs.Instance.{Choice as Chosen, Rising}
-use Rattle.atomset.proofs.Rising.{rising-cons, rising-below, rising-rest}
+use Rattle.elk.proofs.Rising.{rising-cons, rising-below, rising-rest}
 use Rattle.unstable.proofs.Steps.{in-put}
 
 -- S is part of V

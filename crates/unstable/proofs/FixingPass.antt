@@ -17,13 +17,14 @@ use Rattle.atomset.specs.AtomSet.{has, Member, Included, members}
 use Rattle.atomset.proofs.Digits.{has-zero}
 use Rattle.atomset.proofs.Membership.{member-union}
 use Rattle.atomset.proofs.Members.{member-members}
-use Rattle.atomset.proofs.Rising.{rising-below, rising-rest}
+use Rattle.format.proofs.RisingNumbers.{rising-of}
+use Rattle.elk.proofs.Rising.{rising-below, rising-rest}
 use Rattle.sides.specs.Members.{AllRise}
 use Rattle.sides.specs.Deciding.{DecidesIf}
 use Rattle.sides.proofs.Deciding.{no-if}
 use Rattle.shapes.specs.Shapes.{shapeIn}
 use Rattle.unstable.specs.Fixing.{fixesAtom, FixedBy, Fixes}
-use Rattle.unstable.proofs.Steps.{rising-of, more-there, none-left}
+use Rattle.unstable.proofs.Steps.{more-there, none-left}
 
 -- x is the first number of the list
 abbrev isFirst : ℕ → List ℕ → Bool

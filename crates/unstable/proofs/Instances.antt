@@ -20,7 +20,8 @@ use Rattle.format.proofs.Formulas.{known-earlier, equal-numbers}
 use Rattle.format.proofs.Decoded.{in-decoded, decoded-in, number-on}
 use Rattle.atomset.specs.AtomSet.{has, Member, members, setOf}
 use Rattle.atomset.proofs.Membership.{member-lt}
-use Rattle.atomset.proofs.Rising.{rising-unique}
+use Rattle.format.proofs.RisingNumbers.{rising-of}
+use Rattle.elk.proofs.Rising.{rising-unique}
 use Rattle.atomset.proofs.Members.{members-rising, member-members, members-unique}
 use Rattle.atomset.proofs.SetOf.{member-setOf, setOf-lt}
 use Rattle.tables.specs.Holding.{Formulas, Sided}
@@ -29,7 +30,6 @@ use Rattle.sides.proofs.Sets.{any-iff}
 use Rattle.unstable.specs.Joins.{middlesIn}
 use Rattle.unstable.specs.Fixing.{Fixes}
 use Rattle.unstable.specs.Unstable.{occursOn, WordOf, Reads, UnstableIn, UnstableSides}
-use Rattle.unstable.proofs.Steps.{rising-of}
 use Rattle.unstable.proofs.Joined.{choice-sound, choice-complete, middles-iff}
 use Rattle.unstable.proofs.ChoiceSets.{chosen-part, chosen-rising, in-atoms}
 use Rattle.unstable.proofs.Words.{rest-word, restOf}

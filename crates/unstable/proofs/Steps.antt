@@ -6,13 +6,13 @@ use mathlib.Core.List.{List, [], _∷_, List·Memᴰ·head, List·Memᴰ·tail, 
 use mathlib.Core.Logic.{_↔_, _⊎_, inl, inr, ⊎-elim, _≢_}
 use mathlib.Core.Option.{Option, none, some}
 use mathlib.Core.Path.{_≡_, refl, sym, ap, ap₂, subst, _∙_}
-use borrow.Author.Tests.{eqb-true, eq-eqb, ne-eqb, lt-ltb, ltb-true, not-true, not-false}
+use borrow.Author.Tests.{eqb-true, eq-eqb, ne-eqb, lt-ltb, not-true, not-false}
 use lib.Dec.{eqb, ltb, eqb·suc-zero}
 use lib.ListN.{length, getD, drop}
 use Rattle.equilibrium.specs.Meaning.{_∈_}
-use Rattle.elk.specs.Instance.{chosen, put, Rising}
+use Rattle.elk.specs.Instance.{chosen, put}
 use Rattle.elk.specs.Instance.{Choice as Chosen}
-use Rattle.format.specs.Text.{_<$>_, strictlyRising}
+use Rattle.format.specs.Text.{_<$>_}
 use Rattle.atomset.specs.AtomSet.{has, Member, members}
 use Rattle.atomset.proofs.Digits.{has-zero}
 use Rattle.atomset.proofs.Membership.{member-lt}
@@ -180,13 +180,6 @@ module _ (formulas : List ℕ) (e p : ℕ) where
     middle-by k h =
         middle-both s ∙ ap (λ (t : Bool). t && eqb (signOf (shapeIn formulas y) p) 2) (ap (λ (k : ℕ). eqb k 1) (sym f) ∙ eq-eqb sign 1 k)
         ∙ ap (λ (k : ℕ). eqb k 2) (sym h)
-
--- a strictly rising list, as the relation
-pub rising-of : (xs : List ℕ) → strictlyRising xs ≡ true → Rising xs
-unfolding strictlyRising
-rising-of [] e = tt
-rising-of (x ∷ []) e = tt
-rising-of (x ∷ y ∷ ys) e = let both = and-eq-true-iff (ltb x y) (strictlyRising (y ∷ ys)) .0 e in (ltb-true x y (both .0), rising-of (y ∷ ys) (both .1))
 
 -- ---- a walk over the members of a word
 
