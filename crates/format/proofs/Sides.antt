@@ -26,7 +26,6 @@ only-some false o x e = let z : _≡_ {A = ℕ} 0 1 = cc in absurd (omega arith)
 -- a field that writes a number
 pub record Digits (field : Bytes) (n : ℕ) : Type 0 where
   pub some-digit : 1 ≤ length field
-  pub at-most-five : length field ≤ 5
   pub digits : all isDigit field ≡ true
   pub no-zero : leadingZero field ≡ false
   pub value : valueFrom 0 field ≡ n
@@ -40,7 +39,6 @@ number-digits field n e =
     let two = and-true (leb 1 (length field)) (leb (length field) 5) (third .0) in
     record {
       some-digit = leb-true 1 (length field) (two .0);
-      at-most-five = leb-true (length field) 5 (two .1);
       digits = third .1;
       no-zero = was-not (leadingZero field) (last .1);
       value = cc;

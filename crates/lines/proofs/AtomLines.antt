@@ -39,12 +39,11 @@ use Rattle.state.specs.Lined.{OfKind}
 use Rattle.lines.specs.AtomLines.{AtomNumbered, AtomLined, withNames}
 use Rattle.state.specs.declared.State.{State}
 use Rattle.state.specs.declared.Stepped.{Stepped}
+use Rattle.text.proofs.NumberLaws.{was-number, was-no-number}
 use Rattle.lines.proofs.LineLaws.{
   atomWritten,
   line-atom,
   line-no-atom,
-  number-value,
-  number-bad,
   number-given,
   none-given,
   keeps-passed,
@@ -74,10 +73,10 @@ module _ (line : Bytes) (fields : Fields) (fielded : Fielded line fields) (kind 
     by-number o e = line-atom line kind (sym (fielded .counted) ∙ three) ∙ ap (atomWritten (nameIn line)) e
 
     pub atom-unnumbered : numberAs (numberOf (getD (fieldsOf line) 1 [])) ≡ Number.Bad → lineOf line ≡ none
-    atom-unnumbered e = by-number none (number-bad _ e)
+    atom-unnumbered e = by-number none (was-no-number _ e)
 
     pub atom-read : (n : ℕ) → numberAs (numberOf (getD (fieldsOf line) 1 [])) ≡ Number.Value n → lineOf line ≡ some (atomLine n (nameIn line))
-    atom-read n e = by-number (some n) (number-value _ n e)
+    atom-read n e = by-number (some n) (was-number _ n e)
 
 -- ---- the number that an atom earns
 

@@ -7,7 +7,7 @@ use mathlib.Core.List.{List, [], _∷_, _++_}
 use mathlib.Core.Option.{Option, none, some}
 use lib.Dec.{eqb}
 use lib.ListN.{length, getD, take}
-use borrow.Author.Tests.{eqb-true, eqb-false, ltb-false}
+use borrow.Author.Tests.{eqb-true, eqb-false}
 use Rattle.format.specs.Text.{Bytes, fieldsOf, sideOf, strictlyRising}
 use Rattle.format.specs.File.{Row, Model, Claim, claimed, File, atomsGiven}
 use Rattle.format.specs.Line.{lineOf}
@@ -26,7 +26,7 @@ use Rattle.text.specs.declared.lists.Listed.{Listed}
 use Rattle.tables.specs.Holding.{HoldsRows, Sided}
 use Rattle.counts.specs.declared.Counts.{Counts}
 use Rattle.early.specs.Early.{pastOf, badOf, numbered}
-use Rattle.rows.proofs.EarlyTests.{past-listed, bad-listed}
+use Rattle.rows.proofs.EarlyTests.{past-listed, bad-listed, short-side}
 use Rattle.rows.proofs.Numbering.{first-append, numbered-some}
 use Rattle.models.specs.Models.{Given, ModelNumbered}
 use Rattle.state.specs.State.{refusedBy, claimedBy, modelReport, modelAtoms, modelLine, Memory, Stored}
@@ -98,7 +98,7 @@ module _ {text : Bytes} {f : File} {s : State} {t : Memory} (stored : Stored tex
       side-laid : {zs table : List ℕ} {listed : Listed} → Laid zs listed table → unknownFormula (f .body) zs ≡ false → badSide zs ≡ false
           → take (listed .count) table ≡ zs
       side-laid {zs} {table} z unknown-none rising =
-          z .front (ltb-false mostOnSide (length zs) (booleans.or-false (not (strictlyRising zs)) _ rising .1))
+          z .front (short-side zs rising)
           (λ i m. omega (arith, known-earlier (f .body) zs unknown-none i m, good-held (good .body) .few-nodes))
 
       left-laid : take (left .count) l ≡ xs

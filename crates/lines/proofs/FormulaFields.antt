@@ -13,7 +13,7 @@ use Rattle.text.specs.Numbers.{numberAs}
 use Rattle.text.specs.declared.numbers.Number.{Number}
 use Rattle.keywords.specs.Words.{formulaWord}
 use Rattle.lines.specs.FormulaLines.{writtenAs}
-use Rattle.lines.proofs.LineLaws.{number-value, number-bad}
+use Rattle.text.proofs.NumberLaws.{was-number, was-no-number}
 
 -- the formula by the number of its word
 abbrev nodeBy : ℕ → Bytes → Bytes → Option Node
@@ -86,7 +86,7 @@ module _ (field first second : Bytes) where
       first-bad p = sym (ap writtenAs (by-word ∙ cases w operand))
         where
           no-first : numberOf first ≡ none
-          no-first = number-bad _ p
+          no-first = was-no-number _ p
 
           one : (node : ℕ → Node) → unary node first second ≡ none
           one node = ap (λ (o : Option ℕ). onlyIf (is "-" second) (node <$> o)) no-first ∙ either (is "-" second)
@@ -109,7 +109,7 @@ module _ (field first second : Bytes) where
 
       module _ (n : ℕ) (first-is : numberAs (numberOf first) ≡ Number.Value n) where
         first-read : numberOf first ≡ some n
-        first-read = number-value _ n first-is
+        first-read = was-number _ n first-is
 
         module _ (one : w < 3) where
           by-dash : (b : Bool) → is "-" second ≡ b → nodeOf field first second ≡ onlyIf b (some (oneOf w n))
@@ -150,12 +150,12 @@ module _ (field first second : Bytes) where
               cases (suc (suc (suc (suc (suc (suc k)))))) h l e = absurd (omega arith)
 
           pub second-bad : numberAs (numberOf second) ≡ Number.Bad → writtenAs none ≡ writtenAs (nodeOf field first second)
-          second-bad q = sym (ap writtenAs (by-second none (number-bad _ q)))
+          second-bad q = sym (ap writtenAs (by-second none (was-no-number _ q)))
 
           pub two-read : (m : ℕ) → numberAs (numberOf second) ≡ Number.Value m
               → record { well = true; word = w; first = n; second = m } ≡ writtenAs (nodeOf field first second)
           two-read m q =
-              cases w two (omega (arith, word-small)) (λ e. word e) ∙ sym (ap writtenAs (by-second (some m) (number-value _ m q)))
+              cases w two (omega (arith, word-small)) (λ e. word e) ∙ sym (ap writtenAs (by-second (some m) (was-number _ m q)))
             where
               cases : (k : ℕ) → 3 ≤ k → k ≤ 6 → (k ≡ 6 → ⊥) → record { well = true; word = k; first = n; second = m } ≡ writtenAs (some (twoOf k n m))
               cases zero h l e = absurd (omega arith)

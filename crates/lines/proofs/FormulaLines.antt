@@ -40,11 +40,10 @@ use Rattle.early.specs.Early.{numbered}
 use Rattle.state.specs.declared.State.{State}
 use Rattle.state.specs.declared.Stepped.{Stepped}
 use Rattle.lines.specs.declared.formula.Written.{Written}
+use Rattle.text.proofs.NumberLaws.{was-number, was-no-number}
 use Rattle.lines.proofs.LineLaws.{
   line-formula,
   line-no-formula,
-  number-value,
-  number-bad,
   number-given,
   keeps-passed,
   steps-next,
@@ -199,12 +198,12 @@ module _ (line : Bytes) (fields : Fields) (fielded : Fielded line fields) (kind 
       own-is = number-read .answer ∙ ap (λ (x : Bytes). numberAs (numberOf x)) (at-first .field fielded (omega arith))
 
       pub formula-unnumbered : own ≡ Number.Bad → lineOf line ≡ none
-      formula-unnumbered e = by-fields none (nodeIn line) (number-bad _ (sym own-is ∙ e)) refl
+      formula-unnumbered e = by-fields none (nodeIn line) (was-no-number _ (sym own-is ∙ e)) refl
 
       module _ {n : ℕ} (is-number : own ≡ Number.Value n) {b c d : Bytes} (at-b : FieldPart line fields 2 b) (at-c : FieldPart line fields 3 c)
           (at-d : FieldPart line fields 4 d) {node : Written} (is-node : node ≡ writtenAs (nodeOf b c d)) where
         number-is : numberOf (getD (fieldsOf line) 1 []) ≡ some n
-        number-is = number-value _ n (sym own-is ∙ is-number)
+        number-is = was-number _ n (sym own-is ∙ is-number)
 
         node-is : node ≡ writtenAs (nodeIn line)
         node-is =

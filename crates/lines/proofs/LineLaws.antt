@@ -35,10 +35,8 @@ use Rattle.format.specs.Tables.{padded, joinAll, mostOnSide}
 use Rattle.format.specs.Judged.{Place, Outcome, next, refused, settled, step}
 use Rattle.format.specs.Good.{Good}
 use Rattle.format.proofs.Stepping.{step-bad}
-use Rattle.text.specs.Numbers.{numberAs}
 use Rattle.text.specs.Lists.{laidOver, listedAs}
 use Rattle.parts.specs.Refusals.{badLine}
-use Rattle.text.specs.declared.numbers.Number.{Number}
 use Rattle.text.specs.declared.lists.Listed.{Listed}
 use Rattle.tables.specs.Records.{written}
 use Rattle.tables.specs.Holding.{HoldsNodes, HoldsRows}
@@ -181,14 +179,6 @@ module _ (line : Bytes) where
   line-no-claim = claim-count (fieldsOf line)
 
 -- ---- what the readers' answers tell
-
-pub number-value : (o : Option ℕ) (n : ℕ) → numberAs o ≡ Number.Value n → o ≡ some n
-number-value none n e = let z : _≡_ {A = ℕ} 0 1 = cc in absurd (omega arith)
-number-value (some m) n e = cc
-
-pub number-bad : (o : Option ℕ) → numberAs o ≡ Number.Bad → o ≡ none
-number-bad none e = refl
-number-bad (some m) e = let z : _≡_ {A = ℕ} 0 1 = cc in absurd (omega arith)
 
 pub not-listed : (o : Option (List ℕ)) {listed : Listed} → listed ≡ listedAs o → listed .well ≡ false → o ≡ none
 not-listed none e h = refl

@@ -2,21 +2,20 @@
 use Prim.Native.Nat.{ℕ, _+_, _*_, _%_, _≤_}
 use native.Mathlib.Omega.{arith}
 use mathlib.Core.Path.{_≡_, refl, sym, ap, ap₂, subst, _∙_}
-use mathlib.Core.Bool.{true, false, not}
+use mathlib.Core.Bool.{true, false}
 use mathlib.Core.List.{List, [], _∷_, _++_, List·Memᴰ·head}
 use mathlib.Core.Option.{Option, none, some}
-use lib.Dec.{ltb}
 use lib.ListN.{length, getD, take}
-use borrow.Author.Tests.{leb-false, ltb-false}
+use borrow.Author.Tests.{leb-false}
 use Rattle.elk.specs.Rules.{codeOf}
-use Rattle.format.specs.Text.{Bytes, strictlyRising}
+use Rattle.format.specs.Text.{Bytes}
 use Rattle.format.specs.File.{Row, in-rows, File, addRow}
 use Rattle.format.specs.Line.{rowLine, lineOf}
-use Rattle.format.specs.Tables.{absent, orAbsent, leftPool, rightPool, rowWidth, rowRecord, rowRecords, mostBytes, mostOnSide, padded}
+use Rattle.format.specs.Tables.{absent, orAbsent, leftPool, rightPool, rowWidth, rowRecord, rowRecords, mostBytes, padded}
 use Rattle.format.specs.Tests.{_when_, rank, first, outOfOrder, listed, unknownFormula, badSide, bodyTests, rowTests}
 use Rattle.format.specs.Judged.{Place, next, settled, step, withRow}
 use Rattle.format.specs.Good.{Good}
-use Rattle.format.proofs.Booleans.{or-false, any-false}
+use Rattle.format.proofs.Booleans.{any-false}
 use Rattle.format.proofs.Tested.{passes, PassedRow, passed-row}
 use Rattle.format.proofs.GoodBodies.{good-held}
 use Rattle.format.proofs.Formulas.{known-earlier}
@@ -31,6 +30,7 @@ use Rattle.tables.proofs.Encoded.{put-row-encoded}
 use Rattle.early.specs.Early.{numbered}
 use Rattle.rows.specs.Judgement.{RowNumbered}
 use Rattle.drafts.specs.declared.Draft.{Draft}
+use Rattle.rows.proofs.EarlyTests.{short-side}
 use Rattle.rows.proofs.Numbering.{numbered-some, numbered-none}
 use Rattle.state.specs.State.{refusedBy, passedBy, Memory, SameLengths, Exactly, Stored, Steps, Keeps}
 use Rattle.state.specs.Lined.{Lined}
@@ -96,12 +96,12 @@ module _ (text line : Bytes) (start number : ℕ) (s : State) {n : ℕ} {q : Row
       short : (side : List ℕ) {listed : Listed} {table : List ℕ} → Laid side listed table → badSide side ≡ false → unknownFormula (f .body) side ≡ false
           → take (listed .count) table ≡ side
       short side {listed} {table} laid good-side known =
-          laid .front (ltb-false mostOnSide (length side) (or-false (not (strictlyRising side)) (ltb mostOnSide (length side)) good-side .1))
+          laid .front (short-side side good-side)
           (λ x m. omega (arith, known-earlier (f .body) side known x m, good-held (good .body) .few-nodes))
 
       counted : {side : List ℕ} {listed : Listed} {table : List ℕ} → Laid side listed table → badSide side ≡ false → listed .count ≡ length side
       counted {side} laid good-side =
-          omega (arith, ap (λ (z : Listed). z .count) (laid .answer), ltb-false mostOnSide (length side) (or-false (not (strictlyRising side)) _ good-side .1))
+          omega (arith, ap (λ (z : Listed). z .count) (laid .answer), short-side side good-side)
 
       left-is : take (d .left .count) l ≡ q .left
       left-is = short (q .left) (drafted .left-laid) (fits .left-good) (fits .left-known)

@@ -124,7 +124,8 @@ narrow-below h xs fits below x m = omega (arith, below x m)
 good-side : (b : Body) (side : List ℕ) → unknownFormula b side ≡ false → badSide side ≡ false → Sided b side
 good-side b side known good = record { known = known; rising = booleans.not-false _ (booleans.or-false (not (strictlyRising side)) _ good .0) }
 
-short-side : (side : List ℕ) → badSide side ≡ false → length side ≤ mostOnSide
+-- a side that is not bad is short
+pub short-side : (side : List ℕ) → badSide side ≡ false → length side ≤ mostOnSide
 short-side side good = ltb-false mostOnSide (length side) (booleans.or-false (not (strictlyRising side)) _ good .1)
 
 -- a row that none of the early tests refuses, ready for its rule

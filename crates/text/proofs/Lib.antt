@@ -1,4 +1,4 @@
-mod NumberLaws
+pub mod NumberLaws
 mod ListLaws
 mod ItemLaws
 mod Listing

@@ -17,7 +17,7 @@ use Rattle.text.specs.declared.lists.Listed.{Listed}
 
 -- ---- all numbers from one to another
 
-pub length-up : (first k : ℕ) → length (upFrom first k) ≡ k
+length-up : (first k : ℕ) → length (upFrom first k) ≡ k
 unfolding upFrom
 length-up first zero = refl
 length-up first (suc k) = ap suc (length-up (first + 1) k)
@@ -34,7 +34,7 @@ rising-up first (suc zero) = refl
 rising-up first (suc (suc k)) = rw (lt-ltb first (first + 1) (omega arith)) (rising-up (first + 1) (suc k))
 
 -- the first of them, and those after it
-pub spanned-cons : (first last : ℕ) → first ≤ last → spanned first last ≡ first ∷ upFrom (first + 1) (last - first)
+spanned-cons : (first last : ℕ) → first ≤ last → spanned first last ≡ first ∷ upFrom (first + 1) (last - first)
 unfolding upFrom
 spanned-cons first last h = let more : last + 1 - first ≡ suc (last - first) = omega arith in ap (upFrom first) more
 
@@ -135,7 +135,7 @@ laid-more xs (y ∷ ys) was =
     ∙ ap₂ (λ t k. laidAt t k ys) (laid-last xs y was) (length-append xs (y ∷ []))
 
 -- past the end of the table nothing is
-pub laid-past : (table : List ℕ) (at : ℕ) (xs : List ℕ) → length table ≤ at → laidAt table at xs ≡ table
+laid-past : (table : List ℕ) (at : ℕ) (xs : List ℕ) → length table ≤ at → laidAt table at xs ≡ table
 unfolding laidAt
 laid-past table at [] h = refl
 laid-past table at (x ∷ xs) h = ap (λ t. laidAt t (at + 1) xs) (set-out table at (x % 65536) h) ∙ laid-past table (at + 1) xs (omega arith)

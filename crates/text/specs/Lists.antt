@@ -1,11 +1,11 @@
 -- What the readers of a list answer and store, as a function of what the field writes (`Rattle.format.specs.Text`).
-use Prim.Native.Nat.{ℕ, _+_, _-_, _%_, min, max}
+use Prim.Native.Nat.{ℕ, _+_, _%_, min, max}
 use mathlib.Core.Path.{_≡_}
 use mathlib.Core.Bool.{Bool, true, false, cond}
 use mathlib.Core.List.{List, [], _∷_, _++_}
 use mathlib.Core.Option.{Option, none, some}
 use lib.ListN.{length, set}
-use Rattle.format.specs.Text.{Bytes, Item, comma, partsAt, is, listOf, meantBy, upFrom, sideOf, strictlyRising}
+use Rattle.format.specs.Text.{Bytes, Item, comma, partsAt, is, listOf, meantBy, sideOf, strictlyRising}
 use Rattle.parts.specs.Refusals.{badUnless, badIfNone}
 use Rattle.text.specs.Items.{itemBy}
 use Rattle.text.specs.declared.lists.Listed.{Listed}
@@ -66,7 +66,7 @@ pub record ListedInto (runs : Bool) (field : Bytes) (was is : List ℕ) (r : Lis
 
 -- all numbers from the first to the last
 abbrev pub spanned : ℕ → ℕ → List ℕ
-spanned first last = upFrom first (last + 1 - first)
+spanned first last = meantBy (Item.run first last)
 
 -- numbers stored from a place on
 unfoldable pub laidAt : List ℕ → ℕ → List ℕ → List ℕ
