@@ -1,13 +1,14 @@
 -- The table of rules is 01's: the rows of Rows are instances or are none, each list by one computed test, and 01's whole
 -- file is a derivation of its claim. A rule's code is its place, and no two rules have one word.
-use Prim.Native.Nat.{ℕ, zero, suc}
-use mathlib.Core.Path.{_≡_, refl, sym, _∙_, ap₂, subst}
+use Prim.Native.Nat.{ℕ, zero, suc, _+_, _<_}
+use native.Mathlib.Omega.{arith}
+use mathlib.Core.Path.{_≡_, refl, sym, _∙_, ap, ap₂, subst}
 use mathlib.Core.Bool.{Bool, true, false}
 use mathlib.Core.List.{List, [], _∷_, map, map-map, List·Memᴰ·not-nil, List·Memᴰ·head, List·Memᴰ·tail}
 use mathlib.Core.Option.{Option, none, some, IsSome}
 use mathlib.Core.Logic.{_↔_}
 use native.Mathlib.Decide.{ℕ-discrete}
-use lib.ListN.{length}
+use lib.ListN.{length, getD}
 use lib.Dec.{T}
 use lib.Text.{eqt, eqt-refl}
 use Rattle.equilibrium.specs.Formula.{Formula}
@@ -151,6 +152,33 @@ rule-at-code r =
       | xnorr1 ↦ refl
       | xnorr2 ↦ refl
     ]
+
+-- in a list over all rules, what belongs to a rule stands at its code
+pub at-code : {B : Type 0} (f : Rule → B) (d : B) (r : Rule) → getD (map f rules) (codeOf r) d ≡ f r
+at-code f d r = place rules (codeOf r) (rule-at-code r)
+  where
+    place : (qs : List Rule) (i : ℕ) → at qs i ≡ some r → getD (map f qs) i d ≡ f r
+    place [] i e = absurd (subst IsSome (sym e) tt)
+    place (q ∷ qs) zero e = let same : q ≡ r = cc in ap f same
+    place (q ∷ qs) (suc i) e = place qs i e
+
+-- what agrees over the list of all rules agrees on each
+pub agree-on-each : {B : Type 0} (f g : Rule → B) → map f rules ≡ map g rules → (r : Rule) → f r ≡ g r
+agree-on-each f g e r = sym (at-code f (f r) r) ∙ ap (λ l. getD l (codeOf r) (f r)) e ∙ at-code g (f r) r
+
+-- the numbers from one on, as many as there are rules
+abbrev counted : ℕ → List Rule → List ℕ
+counted k [] = []
+counted k (r ∷ rs) = k ∷ counted (suc k) rs
+
+-- the rule at a place has that place as its code
+pub code-at : (i : ℕ) → i < length rules → codeOf (getD rules i def) ≡ i
+code-at i h = let found = from rules 0 i refl h in omega (arith, found)
+  where
+    from : (rs : List Rule) (k i : ℕ) → map codeOf rs ≡ counted k rs → i < length rs → codeOf (getD rs i def) ≡ k + i
+    from [] k i e h = absurd (omega arith)
+    from (r ∷ rs) k zero e h = let code : codeOf r ≡ k = cc in omega arith
+    from (r ∷ rs) k (suc i) e h = let rest : map codeOf rs ≡ counted (suc k) rs = cc in let next = from rs (suc k) i rest (omega arith) in omega arith
 
 pub every-rule : (r : Rule) → r ∈ rules
 every-rule r = found rules (codeOf r) (rule-at-code r)

@@ -72,7 +72,7 @@ principal-visible none = (refl, tt)
 principal-visible (some n) = decimal-visible n
 
 -- a rule's word is read back, and is visible
-rule-word : (r : Rule) → (ruleOf (bytes (wordOf r)) ≡ some r) × (all (leb 33) (bytes (wordOf r)) ≡ true)
+pub rule-word : (r : Rule) → (ruleOf (bytes (wordOf r)) ≡ some r) × (all (leb 33) (bytes (wordOf r)) ≡ true)
 unfolding ruleOf sameList
 rule-word = elim [
   | def ↦ (refl, refl)

@@ -1,4 +1,4 @@
--- A word is told by its key, a kind of line by its one byte, and the code of a rule by the key of its word.
+-- A word of an F line is told by its key, and a kind of line by its one byte.
 -- Assumes nothing.
 use Prim.Native.Nat.{ℕ, zero, suc, _+_, _-_, _*_, _^_, _≤_, _<_}
 use mathlib.Core.Path.{_≡_, refl, sym, ap, ap₂, _∙_}
@@ -11,13 +11,11 @@ use lib.Dec.{eqb, leb, ltb, lit<}
 use lib.ListN.{length, getD, drop, length-drop}
 use lib.Seq.{drop-cons, drop-length, getD-drop}
 use borrow.Author.Tests.{eq-eqb, ne-eqb, eqb-true, leb-true, ltb-true}
-use Rattle.elk.specs.Rules.{Rule, rules, codeOf, wordOf}
 use Rattle.format.specs.Text.{Bytes, sameList, all, bytes, is}
-use Rattle.format.specs.Line.{ruleAmong, ruleOf}
-use Rattle.format.proofs.Booleans.{and-true as both}
+use Rattle.format.proofs.Booleans.{and-true as both, same-list}
 use Rattle.parts.specs.Refusals.{badUnless}
 use Rattle.parts.proofs.OneByte.{one-byte, not-one-byte}
-use Rattle.keywords.specs.Words.{kindNamed, formulaWord, ruleCode, keyOf, IsKey, isShort, wordKey, codeAmong, noWord, noRule, kindRefusal, KindRead}
+use Rattle.keywords.specs.Words.{kindNamed, formulaWord, keyOf, IsKey, isShort, noWord, kindRefusal, KindRead}
 use Rattle.keywords.specs.declared.Kind.the-variants.{Atom, Formula, Row, Model, Claim, Unknown}
 use Rattle.keywords.specs.declared.Kind.{Kind}
 
@@ -68,23 +66,15 @@ formula-key field key k =
       sym (k (bytes "imp") refl),
     )
 
-same→equal : (a b : Bytes) → sameList a b ≡ true → a ≡ b
-unfolding sameList
-same→equal [] [] e = refl
-same→equal [] (y ∷ b) e = absurd (false≢true e)
-same→equal (x ∷ a) [] e = absurd (false≢true e)
-same→equal (x ∷ a) (y ∷ b) e =
-    let h = both (eqb x y) (sameList a b) e in
-    ap₂ (λ x a. x ∷ a) (eqb-true x y (h .0)) (same→equal a b (h .1))
-
 -- each is a byte
 abbrev pub Small : Bytes → Type 0
 Small bs = (i : ℕ) → getD bs i 0 < 256
 
-all-small : (bs : Bytes) → all (λ b. ltb b 256) bs ≡ true → Small bs
-all-small [] e i = lit< tt
-all-small (b ∷ bs) e zero = ltb-true b 256 (both (ltb b 256) (all (λ b. ltb b 256) bs) e .0)
-all-small (b ∷ bs) e (suc i) = all-small bs (both (ltb b 256) (all (λ b. ltb b 256) bs) e .1) i
+-- numbers that are all below one, each by its place
+pub all-below : (n : ℕ) → 0 < n → (bs : Bytes) → all (λ b. ltb b n) bs ≡ true → (i : ℕ) → getD bs i 0 < n
+all-below n h [] e i = h
+all-below n h (b ∷ bs) e zero = ltb-true b n (both (ltb b n) (all (λ b. ltb b n) bs) e .0)
+all-below n h (b ∷ bs) e (suc i) = all-below n h bs (both (ltb b n) (all (λ b. ltb b n) bs) e .1) i
 
 key-pos : (bs : Bytes) → 1 ≤ keyOf bs
 unfolding keyOf
@@ -124,10 +114,10 @@ module _ (field : Bytes) (at : ℕ) (s : Small field) (h : 0 < at) (l : at ≤ l
 
 key-tells : (field : Bytes) → Small field → IsKey field (keyOf field)
 key-tells field s word short =
-    by-test (sameList field word) refl (all-small word (both (leb (length word) 7) (all (λ b. ltb b 256) word) short .1))
+    by-test (sameList field word) refl (all-below 256 (lit< tt) word (both (leb (length word) 7) (all (λ b. ltb b 256) word) short .1))
   where
     by-test : (t : Bool) → sameList field word ≡ t → Small word → eqb (keyOf field) (keyOf word) ≡ t
-    by-test true e w = eq-eqb _ _ (ap keyOf (same→equal field word e))
+    by-test true e w = eq-eqb _ _ (ap keyOf (same-list field word e))
     by-test false e w = ne-eqb _ _ (λ k. true≢false (sym (key-injective field word s w k) ∙ e))
 
 pub key-done : (field : Bytes) (at key : ℕ) → Small field → at ≤ 0 → key ≡ keyOf (drop at field) → IsKey field key
@@ -138,45 +128,5 @@ no-key field h word short = by-test (sameList field word) refl
   where
     by-test : (t : Bool) → sameList field word ≡ t → eqb 0 (keyOf word) ≡ t
     by-test true e =
-        absurd (omega (arith, ap length (same→equal field word e), leb-true (length word) 7 (both (leb (length word) 7) (all (λ b. ltb b 256) word) short .0)))
+        absurd (omega (arith, ap length (same-list field word e), leb-true (length word) 7 (both (leb (length word) 7) (all (λ b. ltb b 256) word) short .0)))
     by-test false e = ne-eqb 0 (keyOf word) (λ (k : 0 ≡ keyOf word). omega (arith, key-pos word))
-
-abbrev allShort : List Rule → Bool
-allShort [] = true
-allShort (r ∷ rs) = isShort (bytes (wordOf r)) && allShort rs
-
--- the word of a field is judged by its key
-by-key : (field : Bytes) (key : ℕ) → IsKey field key → (rs : List Rule) → allShort rs ≡ true → ruleCode (ruleAmong rs field) ≡ codeAmong rs key
-by-key field key k [] e = refl
-by-key field key k (r ∷ rs) e =
-    let short = both (isShort (bytes (wordOf r))) (allShort rs) e in
-    by-test (is (wordOf r) field) (eqb key (wordKey r)) (k (bytes (wordOf r)) (short .0)) (by-key field key k rs (short .1))
-  where
-    by-test : (s t : Bool) → t ≡ s → ruleCode (ruleAmong rs field) ≡ codeAmong rs key
-        → ruleCode (cond s (some r) (ruleAmong rs field)) ≡ cond t (codeOf r) (codeAmong rs key)
-    by-test true true e rest = refl
-    by-test true false e rest = absurd (false≢true e)
-    by-test false true e rest = absurd (true≢false e)
-    by-test false false e rest = rest
-
-pub rule-by-key : (field : Bytes) (key : ℕ) → IsKey field key → ruleCode (ruleOf field) ≡ codeAmong rules key
-unfolding ruleOf
-rule-by-key field key k = by-key field key k rules refl
-
--- what is left of a `match` on the keys of these rules after N: the key of none of them
-abbrev NoneOf : Type 0 → List Rule → ℕ → Type 0
-NoneOf N [] key = N
-NoneOf N (r ∷ rs) key = NoneOf (N × (key ≡ wordKey r → ⊥)) rs key
-
-none-of : (N : Type 0) (rs : List Rule) (key : ℕ) → NoneOf N rs key → N × (codeAmong rs key ≡ noRule)
-none-of N [] key left = (left, refl)
-none-of N (r ∷ rs) key left =
-    let rest = none-of (N × (key ≡ wordKey r → ⊥)) rs key left in
-    (rest .0 .0, by-test (eqb key (wordKey r)) refl (rest .0 .1) (rest .1))
-  where
-    by-test : (t : Bool) → eqb key (wordKey r) ≡ t → (key ≡ wordKey r → ⊥) → codeAmong rs key ≡ noRule → cond t (codeOf r) (codeAmong rs key) ≡ noRule
-    by-test true e other rest = absurd (other (eqb-true _ _ e))
-    by-test false e other rest = rest
-
-pub no-rule : (key : ℕ) → NoneOf (Unit {0}) rules key → codeAmong rules key ≡ noRule
-no-rule key left = none-of (Unit {0}) rules key left .1

@@ -69,12 +69,3 @@ isShort word = leb (length word) 7 && all (λ b. ltb b 256) word
 -- a number that is the key of a short word exactly if the field is that word
 abbrev pub IsKey : Bytes → ℕ → Type 0
 IsKey field key = (word : Bytes) → isShort word ≡ true → eqb key (keyOf word) ≡ sameList field word
-
--- the key of a rule's word
-abbrev pub wordKey : Rule → ℕ
-wordKey r = keyOf (bytes (wordOf r))
-
--- the code of the rule of these whose word has this key
-abbrev pub codeAmong : List Rule → ℕ → ℕ
-codeAmong [] key = noRule
-codeAmong (r ∷ rs) key = cond (eqb key (wordKey r)) (codeOf r) (codeAmong rs key)

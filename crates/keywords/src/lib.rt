@@ -1,8 +1,11 @@
 // The words of a text: the kinds of line, the words of formulas, and the rules.
 ghost use mathlib.Core.Path.{_≡_};
-ghost use Rattle.elk.specs.Rules.{rules};
+ghost use lib.ListN.{getD};
+ghost use Rattle.format.specs.Text.{sameList};
 ghost use Rattle.format.specs.Line.{ruleOf};
-ghost use Rattle.keywords.specs.Words.{KindRead, formulaWord, ruleCode, IsKey, codeAmong};
+ghost use Rattle.keywords.specs.Words.{KindRead, formulaWord, ruleCode, IsKey};
+ghost use Rattle.keywords.specs.RuleWords.{CodesPlaced, Candidate, WordsStand, wordAt};
+use tables::names::same_bytes;
 
 pub enum Kind {
     Atom,
@@ -107,55 +110,73 @@ pub fn formula_word(field: &[u8]) -> u32
 // The code of a word that is no rule's.
 pub const NO_RULE: u32 = 65535;
 
-// The code of the rule whose word has this key; `NO_RULE` for any other.
-fn rule_of_key(key: u64) -> u32
-    ensures { λ r. ⌜ r ≡ codeAmong rules key ⌝ }
+fn wide(b: u8) -> usize
+    ensures { λ r. ⌜ r ≡ b ⌝ }
 {
-    match key {
-        0x1666564 => 0, // def
-        0x1656d6173 => 1, // same
-        0x16c646e61 => 2, // andl
-        0x172646e61 => 3, // andr
-        0x17277 => 4, // wr
-        0x1746f62 => 5, // bot
-        0x172726f => 6, // orr
-        0x16c726f => 7, // orl
-        0x16c746f6e => 8, // notl
-        0x172706d69 => 9, // impr
-        0x16c706d69 => 10, // impl
-        0x172746f6e => 11, // notr
-        0x174756372 => 12, // rcut
-        0x174736e75 => 13, // unst
-        0x1696e6978 => 14, // xini
-        0x16c6e6e78 => 15, // xnnl
-        0x1726e6e78 => 16, // xnnr
-        0x16c646e6178 => 17, // xandl
-        0x13172646e6178 => 18, // xandr1
-        0x13272646e6178 => 19, // xandr2
-        0x172726f78 => 20, // xorr
-        0x1316c726f78 => 21, // xorl1
-        0x1326c726f78 => 22, // xorl2
-        0x1316c706d6978 => 23, // ximpl1
-        0x1326c706d6978 => 24, // ximpl2
-        0x1336c706d6978 => 25, // ximpl3
-        0x13172706d6978 => 26, // ximpr1
-        0x13272706d6978 => 27, // ximpr2
-        0x16c706d696e78 => 28, // xnimpl
-        0x13172706d696e78 => 29, // xnimpr1
-        0x13272706d696e78 => 30, // xnimpr2
-        0x1316c646e616e78 => 31, // xnandl1
-        0x1326c646e616e78 => 32, // xnandl2
-        0x172646e616e78 => 33, // xnandr
-        0x16c726f6e78 => 34, // xnorl
-        0x13172726f6e78 => 35, // xnorr1
-        0x13272726f6e78 => 36, // xnorr2
-        _ => NO_RULE,
-    }
+    b as usize
 }
 
-// The code of the rule whose word this is; `NO_RULE` for any other.
+// The code of the one rule whose word a field can be, where the table has each rule's code at the place of its word.
+fn candidate(codes: &[u8], field: &[u8]) -> u8
+    requires { ⌜ CodesPlaced (now codes) ⌝ }
+    ensures { λ r. ⌜ Candidate (now (field .entry)) r ⌝ }
+{
+    let len = field.len();
+    if len < 2 {
+        return 0;
+    }
+    if 7 < len {
+        return 0;
+    }
+    let place = 17 * len + 2 * wide(field[1]) + 3 * wide(field[len - 2]) / 2 + wide(field[len - 1]);
+    codes[place % 64]
+}
+
+// Where the word of a code starts; past the last one, the end.
+fn start_of(starts: &[u8], code: usize, end: usize) -> usize
+    ensures { λ r. ⌜ r ≡ getD (now (starts .entry)) code end ⌝ }
+{
+    if code < starts.len() {
+        return wide(starts[code]);
+    }
+    end
+}
+
+// Whether a field is the word of this code, where the words of all rules stand end to end.
+fn is_word(words: &[u8], starts: &[u8], code: u8, field: &[u8]) -> bool
+    requires { ⌜ WordsStand (now words) (now starts) ⌝ }
+    ensures { λ r. ⌜ r ≡ sameList (now (field .entry)) (wordAt code) ⌝ }
+{
+    let at = wide(code);
+    let from = start_of(starts, at, words.len());
+    let to = start_of(starts, at + 1, words.len());
+    same_bytes(field, &words[from..to])
+}
+
+// The code of the rule whose word this is; `NO_RULE` for any other. The words are held once, end to end in the order of their codes, with
+// where each starts; a place that no word has may hold any code.
 pub fn rule_word(field: &[u8]) -> u32
     ensures { λ r. ⌜ r ≡ ruleCode (ruleOf (now (field .entry))) ⌝ }
 {
-    rule_of_key(pack(field))
+    let codes = b"\
+        \x0d\x01\x0b\x03\x12\x13\x15\x16\x22\x09\x21\x17\x18\x19\x01\x0f\
+        \x10\x11\x12\x13\x1a\x1b\x1c\x17\x18\x11\x1a\x1b\x1c\x1d\x23\x24\
+        \x20\x21\x02\x23\x0e\x00\x1f\x20\x03\x04\x04\x05\x07\x0c\x07\x1d\
+        \x1e\x0f\x0a\x0e\x06\x10\x11\x10\x09\x14\x00\x16\x08\x18\x19\x14\
+        ";
+    let code = candidate(codes, field);
+    let words = b"\
+        defsameandlandrwrbotorrorlnotlimprimplnotrrcutunst\
+        xinixnnlxnnrxandlxandr1xandr2xorrxorl1xorl2ximpl1ximpl2ximpl3ximpr1ximpr2\
+        xnimplxnimpr1xnimpr2xnandl1xnandl2xnandrxnorlxnorr1xnorr2\
+        ";
+    let starts = b"\
+        \x00\x03\x07\x0b\x0f\x11\x14\x17\x1a\x1e\x22\x26\x2a\x2e\
+        \x32\x36\x3a\x3e\x43\x49\x4f\x53\x58\x5d\x63\x69\x6f\x75\
+        \x7b\x81\x88\x8f\x96\x9d\xa3\xa8\xae\
+        ";
+    if is_word(words, starts, code, field) {
+        return code as u32;
+    }
+    NO_RULE
 }

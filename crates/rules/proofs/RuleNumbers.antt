@@ -6,7 +6,6 @@ use native.Mathlib.Omega.{arith}
 use mathlib.Core.Bool.{Bool, true, false, _&&_, false≢true}
 use mathlib.Core.List.{List, [], _∷_, map}
 use mathlib.Core.Logic.{_⊎_, inl, inr}
-use mathlib.Core.Option.{some}
 use mathlib.Core.Path.{_≡_, refl, sym, ap, _∙_}
 use lib.Dec.{eqb, ltb}
 use lib.ListN.{length, getD, drop}
@@ -15,7 +14,7 @@ use Rattle.equilibrium.proofs.Sets.{dec-all, from-yes}
 use Rattle.format.specs.Text.{all}
 use Rattle.format.proofs.Booleans.{and-true}
 use Rattle.elk.specs.Rules.{Rule, rules, codeOf, entry}
-use Rattle.elk.proofs.Faithful.{at, every-rule, rule-at-code}
+use Rattle.elk.proofs.Faithful.{at-code, every-rule}
 use Rattle.rules.specs.RuleTable.{stepNumber, ruleNumbers, packedFrom, packedRules, countOfNumbers, ruleNumber}
 
 -- the numbers of a code: those of a rule, or none
@@ -45,12 +44,7 @@ none-or-rule code = among rules code
 
 -- the numbers of a rule stand at its code
 rule-at : (s : Rule) → numbersAt (codeOf s) ≡ ruleNumbers s
-rule-at s = place rules (codeOf s) (rule-at-code s)
-  where
-    place : (rs : List Rule) (i : ℕ) → at rs i ≡ some s → getD (map ruleNumbers rs) i [] ≡ ruleNumbers s
-    place [] i e = let z : _≡_ {A = ℕ} 0 1 = cc in absurd (omega arith)
-    place (r ∷ rs) zero e = let same : r ≡ s = cc in ap ruleNumbers same
-    place (r ∷ rs) (suc i) e = place rs i e
+rule-at s = at-code ruleNumbers [] s
 
 -- for a rule's code the number is the rule's
 pub rule-number : (s : Rule) (at : ℕ) → at < countOfNumbers → ruleNumber (codeOf s) at ≡ getD (ruleNumbers s) at 0

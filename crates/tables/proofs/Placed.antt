@@ -19,7 +19,7 @@ module _ (table : List ℕ) (start len : ℕ) where
   part-outside h = ap (λ (b : Bool). cond b (take len (drop start table)) []) (lt-leb (start + len) (length table) h)
 
 -- inside a list the default does not count
-getD-inside : (xs : List ℕ) (k d e : ℕ) → k < length xs → getD xs k d ≡ getD xs k e
+pub getD-inside : (xs : List ℕ) (k d e : ℕ) → k < length xs → getD xs k d ≡ getD xs k e
 getD-inside [] k d e h = omega arith
 getD-inside (x ∷ xs) zero d e h = refl
 getD-inside (x ∷ xs) (suc k) d e h = getD-inside xs k d e (omega arith)

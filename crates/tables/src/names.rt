@@ -20,7 +20,7 @@ fn least(a: usize, b: usize) -> usize
 }
 
 // Whether two byte strings are equal.
-fn same_bytes(a: &[u8], b: &[u8]) -> bool
+pub fn same_bytes(a: &[u8], b: &[u8]) -> bool
     ensures { λ r. ⌜ r ≡ sameList (now (a .entry)) (now (b .entry)) ⌝ }
 {
     if a.len() != b.len() {

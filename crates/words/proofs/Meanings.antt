@@ -1,15 +1,13 @@
 -- A meaning stands at its rule's code. By one computed test of all rules each, no two share one, and none holds a semicolon or a
 -- zero.
-use Prim.Native.Nat.{ℕ, zero, suc, _≤_}
+use Prim.Native.Nat.{ℕ, suc, _≤_}
 use mathlib.Core.Path.{_≡_, refl, sym, ap, _∙_}
 use mathlib.Core.Bool.{false, cond}
 use mathlib.Core.List.{List, [], _∷_, _++_, map, append-cancel-left}
-use mathlib.Core.Option.{some}
-use native.Mathlib.Omega.{arith}
 use lib.Dec.{eqb}
 use lib.ListN.{getD, List·getD-eq-default}
 use Rattle.elk.specs.Rules.{Rule, rules, codeOf}
-use Rattle.elk.proofs.Faithful.{at, every-rule, rule-at-code}
+use Rattle.elk.proofs.Faithful.{at-code, agree-on-each, every-rule, rule-at-code}
 use Rattle.format.specs.Text.{Bytes, bytes, any, is, sameList}
 use Rattle.format.proofs.Booleans.{any-false}
 use Rattle.words.specs.Meanings.{meaningOf, meaningAt}
@@ -17,12 +15,7 @@ use Rattle.words.proofs.Reading.{Lacks, span}
 
 pub meaning-at : (r : Rule) → meaningAt (codeOf r) ≡ bytes (meaningOf r)
 unfolding meaningAt
-meaning-at r = place rules (codeOf r) (rule-at-code r)
-  where
-    place : (qs : List Rule) (i : ℕ) → at qs i ≡ some r → getD (map (λ q. bytes (meaningOf q)) qs) i [] ≡ bytes (meaningOf r)
-    place [] i e = let z : _≡_ {A = ℕ} 0 1 = cc in absurd (omega arith)
-    place (q ∷ qs) zero e = let same : q ≡ r = cc in ap (λ (s : Rule). bytes (meaningOf s)) same
-    place (q ∷ qs) (suc i) e = place qs i e
+meaning-at r = at-code (λ q. bytes (meaningOf q)) [] r
 
 -- no rule has a code past the table
 pub meaning-past : (code : ℕ) → 37 ≤ code → meaningAt code ≡ []
@@ -52,12 +45,7 @@ meaning-no-zero r = any-false (λ q. any (λ b. eqb b 0) (bytes (meaningOf q))) 
 
 -- the place of a rule's meaning is its code
 found-at-code : (r : Rule) → placeIn rules (bytes (meaningOf r)) ≡ codeOf r
-found-at-code r = each (λ q. placeIn rules (bytes (meaningOf q))) codeOf rules (codeOf r) meanings-differ (rule-at-code r)
-  where
-    each : (f g : Rule → ℕ) (qs : List Rule) (i : ℕ) → map f qs ≡ map g qs → at qs i ≡ some r → f r ≡ g r
-    each f g [] i e k = let z : _≡_ {A = ℕ} 0 1 = cc in absurd (omega arith)
-    each f g (q ∷ qs) zero e k = cc
-    each f g (q ∷ qs) (suc i) e k = let rest : map f qs ≡ map g qs = cc in each f g qs i rest k
+found-at-code r = agree-on-each (λ q. placeIn rules (bytes (meaningOf q))) codeOf meanings-differ r
 
 pub same-meaning : (q r : Rule) → bytes (meaningOf q) ≡ bytes (meaningOf r) → q ≡ r
 same-meaning q r e =
