@@ -10,6 +10,7 @@ mod models;
 mod numbers;
 mod pairs;
 mod rows;
+mod rule_words;
 mod run_limits;
 mod runs;
 mod steps;
@@ -45,6 +46,7 @@ pub fn cases() -> Vec<Case> {
         texts::cases(),
         numbers::cases(),
         pairs::cases(),
+        rule_words::cases(),
         limits::cases(),
         models::cases(),
         steps::cases(),
@@ -61,7 +63,10 @@ pub fn cases() -> Vec<Case> {
 
 /// The files of the corpus folder, by path inside it.
 pub fn files() -> BTreeMap<String, Vec<u8>> {
-    let cases = cases();
+    let (listed, cases): (Vec<Case>, Vec<Case>) =
+        cases().into_iter().partition(|case| case.group() == rule_words::GROUP);
+    let in_full = |case: &Case| format!("{}\t{}\t{}\n", escaped(&case.text), case.number, case.line);
+    let listed: String = listed.iter().map(in_full).collect();
     let answer = |case: &Case| format!("{}\t{}\t{}\n", case.name, case.number, case.line);
     let answers: String = cases.iter().map(answer).collect();
     let pair = |case: &Case| case.plain.as_ref().map(|plain| format!("{}\t{plain}\n", case.name));
@@ -71,8 +76,37 @@ pub fn files() -> BTreeMap<String, Vec<u8>> {
         [(format!("{}.txt", case.name), case.text)].into_iter().chain(words)
     };
     let texts = cases.into_iter().flat_map(of_case);
-    let lists = [("answers.tsv", answers), ("plain.tsv", pairs)];
+    let lists = [("answers.tsv", answers), ("plain.tsv", pairs), ("rule_words.tsv", listed)];
     texts.chain(lists.map(|(name, list)| (name.into(), list.into_bytes()))).collect()
+}
+
+/// A text on one line: `\t` for a tab, `\n` for LF, `\x` and two digits for every other byte
+/// that is not printable, and for the backslash.
+fn escaped(text: &[u8]) -> String {
+    let written = |&byte: &u8| match byte {
+        b'\t' => "\\t".into(),
+        b'\n' => "\\n".into(),
+        b' '..=b'~' if byte != b'\\' => char::from(byte).into(),
+        _ => format!("\\x{byte:02x}"),
+    };
+    text.iter().map(written).collect()
+}
+
+/// The text that is written so, if one is.
+pub fn unescaped(written: &str) -> Option<Vec<u8>> {
+    let mut pieces = written.split('\\');
+    let mut text = pieces.next()?.as_bytes().to_vec();
+    for piece in pieces {
+        let (byte, rest) = match piece.split_at_checked(1)? {
+            ("t", rest) => (b'\t', rest),
+            ("n", rest) => (b'\n', rest),
+            ("x", rest) => (u8::from_str_radix(rest.get(..2)?, 16).ok()?, &rest[2..]),
+            _ => return None,
+        };
+        text.push(byte);
+        text.extend(rest.bytes());
+    }
+    Some(text)
 }
 
 /// Writes the corpus into a folder.
@@ -178,6 +212,12 @@ mod tests {
         for (name, content) in expected {
             assert!(found[&name] == content, "{name} is not what is written here");
         }
+    }
+
+    #[test]
+    fn every_byte_is_read_as_it_is_written() {
+        let bytes = Vec::from_iter(0..=255);
+        assert_eq!(unescaped(&escaped(&bytes)), Some(bytes));
     }
 
     #[test]

@@ -1,5 +1,6 @@
-//! Damage to texts: to bytes, lines, fields, numbers, runs, sides, premises, rules and
-//! models, and growth up to the limits and beyond. Most of it leaves the text nearly right.
+//! Damage to texts: to bytes, lines, fields, numbers, runs, sides, premises, rules, rule
+//! words and models, and growth up to the limits and beyond. Most of it leaves the text
+//! nearly right.
 
 use crate::draft::list;
 use crate::judge::{MOST_ATOMS, MOST_BYTES, MOST_FORMULAS, MOST_IN_A_MODEL, MOST_ROWS};
@@ -46,7 +47,7 @@ fn change_fields(random: &mut Random, text: &[u8]) -> Vec<u8> {
     if lines.is_empty() {
         return b"C\t-\t-\n".to_vec();
     }
-    match random.below(68) {
+    match random.below(74) {
         0 => grow(random, &mut lines),
         1 => lengthen(random, &mut lines),
         2..8 => change_lines(random, &mut lines),
@@ -58,6 +59,7 @@ fn change_fields(random: &mut Random, text: &[u8]) -> Vec<u8> {
         36..44 => change_last_row_and_claim(random, &mut lines),
         44..52 => change_model(random, &mut lines),
         52..56 => change_item(random, &mut lines),
+        56..62 => change_row(random, &mut lines, damage_rule),
         _ => change_row(random, &mut lines, change_side),
     }
     lines.iter().map(|fields| fields.join("\t") + "\n").collect::<String>().into_bytes()
@@ -165,6 +167,32 @@ fn is_row(fields: &[String]) -> bool {
 
 fn change_rule(random: &mut Random, row: &mut [String], _: usize) {
     row[2] = ELK.rules[random.below(ELK.rules.len())].name.into();
+}
+
+/// Leaves a rule's word nearly right: glued to another, cut, or one byte more, less or
+/// changed; or puts a piece of all words end to end in its place.
+fn damage_rule(random: &mut Random, row: &mut [String], _: usize) {
+    let joined: Vec<char> = ELK.rules.iter().flat_map(|rule| rule.name.chars()).collect();
+    let mut word: Vec<char> = row[2].chars().collect();
+    let at = random.below(word.len() + 1);
+    let sign = match random.below(3) {
+        0 => char::from(random.word() as u8),
+        _ => random.pick(&joined),
+    };
+    match random.below(9) {
+        0 => word.extend(ELK.rules[random.below(ELK.rules.len())].name.chars()),
+        1 => word.truncate(at),
+        2 => drop(word.drain(..at)),
+        3 => word.insert(at, sign),
+        4 if at < word.len() => drop(word.remove(at)),
+        5 if at < word.len() => word[at] = sign,
+        6 if at < word.len() => word[at].make_ascii_uppercase(),
+        _ => {
+            let start = random.below(joined.len());
+            word = joined[start..].iter().copied().take(1 + random.below(8)).collect();
+        }
+    }
+    row[2] = word.into_iter().collect();
 }
 
 fn change_principal(random: &mut Random, row: &mut [String], formulas: usize) {

@@ -1,7 +1,9 @@
 //! `first_difference FOLDER` judges the texts of a corpus in order, as far as the first
-//! that earns another answer than answers.tsv says, other tables than the text that
-//! plain.tsv names, or other words than stand beside it; it prints that one and fails.
+//! that earns another answer than answers.tsv or rule_words.tsv says, other tables than the
+//! text that plain.tsv names, or other words than stand beside it; it prints that one and
+//! fails.
 
+use second::corpus::unescaped;
 use second::judge::{Judgement, LEAST, judge};
 use second::words::{Answer, words};
 use std::collections::HashMap;
@@ -37,6 +39,15 @@ fn main() -> std::io::Result<ExitCode> {
             && let Some(difference) = told_otherwise(&text, &judgement, &std::fs::read(printed)?)
         {
             println!("{name}\t{difference}");
+            return Ok(ExitCode::FAILURE);
+        }
+    }
+    for expected in std::fs::read_to_string(folder.join("rule_words.tsv"))?.lines() {
+        let written = expected.split('\t').next().expect("a line starts with a text");
+        let judgement = judge(&unescaped(written).expect("a text as it is listed"), &LEAST);
+        let given = format!("{written}\t{}\t{}", judgement.number, judgement.line);
+        if given != expected {
+            println!("{given}");
             return Ok(ExitCode::FAILURE);
         }
     }

@@ -5,12 +5,14 @@
 //! rest of a table is zero. `--compare` decides every small instance in both ways.
 //! `--words [SPACE]` prints the rows of an accepted text in words instead, if they fit
 //! into so many bytes, or else 1,048,576; and number, tab, line if they don't, or if the
-//! text is refused.
+//! text is refused. `--listed` judges each line of standard input, a text as the corpus lists
+//! it, and prints a line for each.
 
-use second::judge::{Deciding, LEAST, judge_closely};
+use second::corpus::unescaped;
+use second::judge::{Deciding, LEAST, judge, judge_closely};
 use second::words;
 use std::cell::Cell;
-use std::io::{Read, Write};
+use std::io::{BufRead, Read, Write};
 
 /// What the command lends for words.
 const SPACE: usize = 1 << 20;
@@ -18,12 +20,19 @@ const SPACE: usize = 1 << 20;
 fn main() -> std::io::Result<()> {
     let options: Vec<String> = std::env::args().skip(1).collect();
     let asked = |option: &str| options.iter().any(|given| given == option);
+    let mut out = std::io::stdout().lock();
+    if asked("--listed") {
+        for line in std::io::stdin().lock().lines() {
+            let judgement = judge(&unescaped(&line?).expect("a text as the corpus lists it"), &LEAST);
+            writeln!(out, "{}\t{}", judgement.number, judgement.line)?;
+        }
+        return Ok(());
+    }
     let mut text = vec![];
     std::io::stdin().lock().read_to_end(&mut text)?;
     let compared = Cell::new(0);
     let deciding = if asked("--compare") { Deciding::Compared(&compared) } else { Deciding::Fast };
     let (judgement, derivation) = judge_closely(&text, &LEAST, deciding);
-    let mut out = std::io::stdout().lock();
     if asked("--words") {
         let space = options.iter().skip_while(|option| *option != "--words").nth(1);
         let space = space.map_or(SPACE, |space| space.parse().expect("a number of bytes"));

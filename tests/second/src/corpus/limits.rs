@@ -233,6 +233,12 @@ fn long_texts() -> Vec<Case> {
         raw("limits/65536_bytes_without_the_last_lf", 3, lines(&over), over.trim_end()),
         raw("limits/65536_bytes_in_one_line", 3, 1, "x".repeat(MOST_BYTES)),
         raw("limits/65537_bytes_in_one_line", 2, 0, "x".repeat(MOST_BYTES + 1)),
+        raw(
+            "limits/65536_bytes_in_one_rule_word",
+            3,
+            1,
+            format!("N\t0\tsame{}same\t-\t-\t-\t-\n", "x".repeat(MOST_BYTES - 21)),
+        ),
         raw("limits/65536_empty_lines", 3, 1, "\n".repeat(MOST_BYTES)),
     ]
 }
