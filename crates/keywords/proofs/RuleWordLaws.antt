@@ -2,10 +2,10 @@
 -- start to the next one, or to the end. Assumes nothing.
 use Prim.Native.Nat.{ℕ, _+_, _-_, _*_, _/_, _%_, _≤_, _<_}
 use native.Mathlib.Omega.{arith}
-use mathlib.Core.Bool.{Bool, true, false, cond, _&&_, false≢true, true≢false}
+use mathlib.Core.Bool.{Bool, true, false, cond, _&&_, true≢false}
 use mathlib.Core.List.{List, [], _∷_, map}
 use mathlib.Core.Option.{Option, none, some}
-use mathlib.Core.Path.{_≡_, refl, sym, ap, ap₂, _∙_}
+use mathlib.Core.Path.{_≡_, refl, sym, ap, _∙_}
 use lib.Dec.{leb, ltb, lit<}
 use lib.ListN.{length, getD, take, drop, length-take, List·getD-eq-default}
 use borrow.Author.Tests.{ltb-true, ltb-false, leb-true}
@@ -13,8 +13,8 @@ use Rattle.elk.specs.Rules.{Rule, rules, codeOf, wordOf, def}
 use Rattle.elk.proofs.Faithful.{at-code, agree-on-each, code-at}
 use Rattle.format.specs.Text.{Bytes, bytes, is, all, sameList}
 use Rattle.format.specs.Line.{ruleAmong, ruleOf}
-use Rattle.format.specs.Tables.{part}
-use Rattle.format.proofs.Booleans.{and-true as both, same-list, list-same}
+use Rattle.format.specs.Tables.{part, joinAll}
+use Rattle.format.proofs.Booleans.{and-true as both, same-list}
 use Rattle.format.proofs.WrittenLines.{rule-word}
 use Rattle.keywords.specs.Words.{ruleCode, noRule}
 use Rattle.keywords.specs.RuleWords.{startIn, wordIn, WordsStand, wordAt, placeOf, CodesPlaced, Candidate}
@@ -69,13 +69,13 @@ found-by field codes second before-last last placed e f g = rw (e, f, g) (found 
 -- ---- the word of a code
 
 -- bytes and starts that one computed test of all rules passes
-pub words-stand : (words starts : Bytes) → length words ≡ 180 → length starts ≡ length rules → getD starts 0 0 ≡ 0
+pub words-stand : (words starts : Bytes) → length words ≡ 180 → words ≡ joinAll (λ r. bytes (wordOf r)) rules → length starts ≡ length rules
     → map (λ r. wordIn words starts (codeOf r)) rules ≡ map (λ r. bytes (wordOf r)) rules → WordsStand words starts
-words-stand words starts whole count first each =
+words-stand words starts whole end-to-end count each =
     record {
       whole = whole;
+      end-to-end = end-to-end;
       count = count;
-      first = first;
       each = agree-on-each (λ r. wordIn words starts (codeOf r)) (λ r. bytes (wordOf r)) each;
     }
 

@@ -1,21 +1,20 @@
 -- A word of an F line is told by its key, and a kind of line by its one byte.
 -- Assumes nothing.
 use Prim.Native.Nat.{ℕ, zero, suc, _+_, _-_, _*_, _^_, _≤_, _<_}
-use mathlib.Core.Path.{_≡_, refl, sym, ap, ap₂, _∙_}
-use mathlib.Core.Bool.{Bool, true, false, cond, true≢false, false≢true, _&&_, _||_}
-use mathlib.Core.List.{[], _∷_, List}
-use mathlib.Core.Option.{some}
+use mathlib.Core.Path.{_≡_, refl, sym, ap, _∙_}
+use mathlib.Core.Bool.{Bool, true, false, cond, true≢false, _||_}
+use mathlib.Core.List.{[], _∷_}
 use native.Mathlib.Nat.{pow-suc, pow-le-pow-right}
 use native.Mathlib.Omega.{arith}
 use lib.Dec.{eqb, leb, ltb, lit<}
 use lib.ListN.{length, getD, drop, length-drop}
 use lib.Seq.{drop-cons, drop-length, getD-drop}
-use borrow.Author.Tests.{eq-eqb, ne-eqb, eqb-true, leb-true, ltb-true}
+use borrow.Author.Tests.{eq-eqb, ne-eqb, leb-true, ltb-true}
 use Rattle.format.specs.Text.{Bytes, sameList, all, bytes, is}
 use Rattle.format.proofs.Booleans.{and-true as both, same-list}
 use Rattle.parts.specs.Refusals.{badUnless}
 use Rattle.parts.proofs.OneByte.{one-byte, not-one-byte}
-use Rattle.keywords.specs.Words.{kindNamed, formulaWord, keyOf, IsKey, isShort, noWord, kindRefusal, KindRead}
+use Rattle.keywords.specs.Words.{kindNamed, formulaWord, keyOf, IsKey, noWord, kindRefusal, KindRead}
 use Rattle.keywords.specs.declared.Kind.the-variants.{Atom, Formula, Row, Model, Claim, Unknown}
 use Rattle.keywords.specs.declared.Kind.{Kind}
 

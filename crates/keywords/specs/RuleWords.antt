@@ -6,7 +6,7 @@ use mathlib.Core.Path.{_≡_}
 use lib.ListN.{length, getD}
 use Rattle.elk.specs.Rules.{Rule, rules, codeOf, wordOf}
 use Rattle.format.specs.Text.{Bytes, bytes, is}
-use Rattle.format.specs.Tables.{part}
+use Rattle.format.specs.Tables.{part, joinAll}
 
 -- the start of a code's word; past the last one, the end of all words
 abbrev pub startIn : Bytes → Bytes → ℕ → ℕ
@@ -16,12 +16,12 @@ startIn words starts code = getD starts code (length words)
 abbrev pub wordIn : Bytes → Bytes → ℕ → Bytes
 wordIn words starts code = part words (startIn words starts code) (startIn words starts (code + 1) - startIn words starts code)
 
--- The words of the rules stand in these 180 bytes, end to end in the order of their codes: the first at the beginning, and each
--- exactly from its start to the next one, or to the end.
+-- The words of the rules stand in these 180 bytes, end to end in the order of their codes, and each exactly from its start to the next
+-- one, or to the end.
 pub record WordsStand (words starts : Bytes) : Type 0 where
   pub whole : length words ≡ 180
+  pub end-to-end : words ≡ joinAll (λ r. bytes (wordOf r)) rules
   pub count : length starts ≡ length rules
-  pub first : getD starts 0 0 ≡ 0
   pub each : (r : Rule) → wordIn words starts (codeOf r) ≡ bytes (wordOf r)
 
 -- the word of a code; no bytes where no rule has it

@@ -2,11 +2,11 @@
 use Prim.Native.Nat.{ℕ, _+_, _*_}
 use mathlib.Core.Path.{_≡_}
 use mathlib.Core.Bool.{Bool, true, cond, _&&_, _||_}
-use mathlib.Core.List.{List, [], _∷_}
+use mathlib.Core.List.{[], _∷_}
 use mathlib.Core.Option.{Option, none, some}
 use lib.Dec.{eqb, leb, ltb}
 use lib.ListN.{length}
-use Rattle.elk.specs.Rules.{Rule, codeOf, wordOf}
+use Rattle.elk.specs.Rules.{Rule, codeOf}
 use Rattle.format.specs.Text.{Bytes, bytes, is, all, sameList}
 use Rattle.parts.specs.Refusals.{badLine, badUnless}
 use Rattle.keywords.specs.declared.Kind.{Kind}

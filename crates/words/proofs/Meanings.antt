@@ -5,7 +5,7 @@ use mathlib.Core.Path.{_≡_, refl, sym, ap, _∙_}
 use mathlib.Core.Bool.{false, cond}
 use mathlib.Core.List.{List, [], _∷_, _++_, map, append-cancel-left}
 use lib.Dec.{eqb}
-use lib.ListN.{getD, List·getD-eq-default}
+use lib.ListN.{List·getD-eq-default}
 use Rattle.elk.specs.Rules.{Rule, rules, codeOf}
 use Rattle.elk.proofs.Faithful.{at-code, agree-on-each, every-rule, rule-at-code}
 use Rattle.format.specs.Text.{Bytes, bytes, any, is, sameList}

@@ -1,10 +1,8 @@
 -- `keywords::is_word` meets its contract: the word of a code stands from its start to the next one, or to the end. Assumes nothing.
-use Prim.Native.Nat.{ℕ, _+_, _-_}
 use native.Mathlib.Omega.{arith}
 use borrow.Author.Needs.{needs}
-use lib.ListN.{take, drop}
-use mathlib.Core.Path.{_≡_, sym, ap, ap₂, _∙_}
-use Rattle.format.specs.Text.{Bytes, sameList}
+use mathlib.Core.Path.{ap, _∙_}
+use Rattle.format.specs.Text.{sameList}
 use Rattle.keywords.proofs.RuleWordLaws.{StandsAt, stands-by}
 use Rattle.keywords.proofs.is_word.Statement.{statement}
 use Rattle.keywords.proofs.is_word.Tie as tie

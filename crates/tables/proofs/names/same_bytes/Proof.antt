@@ -16,7 +16,7 @@ abbrev μ-loop : tie.MeasureT-loop
 μ-loop a b i₀ i = length a - i
 
 returns : tie.Need-returns Inv-loop μ-loop
-returns c = sym (same-false _ _ (λ e. c .if1 .taken (ap length e)))
+returns c = sym (same-false _ _ (λ e. let lengths = ap length e in omega (arith, lengths, c .if1 .taken)))
 
 loop-holds : tie.Need-loop-holds Inv-loop μ-loop
 loop-holds c = refl
