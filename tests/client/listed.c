@@ -14,12 +14,15 @@ static size_t read_back(char *line, size_t length) {
     size_t written = 0;
     for (size_t at = 0; at < length; at++) {
         char byte = line[at];
-        if (byte == '\\' && line[++at] == 'x') {
+        if (byte == '\\') {
+            at++;
             char digits[] = {line[at + 1], line[at + 2], 0};
-            byte = (char)strtoul(digits, NULL, 16);
-            at += 2;
-        } else if (byte == '\\') {
-            byte = line[at] == 't' ? '\t' : '\n';
+            switch (line[at]) {
+            case 't': byte = '\t'; break;
+            case 'n': byte = '\n'; break;
+            case 'x': byte = (char)strtoul(digits, NULL, 16); at += 2; break;
+            default: fprintf(stderr, "listed: no byte is written %.2s\n", &line[at - 1]); exit(1);
+            }
         }
         line[written++] = byte;
     }

@@ -166,7 +166,7 @@ at-code f d r = place rules (codeOf r) (rule-at-code r)
 pub agree-on-each : {B : Type 0} (f g : Rule → B) → map f rules ≡ map g rules → (r : Rule) → f r ≡ g r
 agree-on-each f g e r = sym (at-code f (f r) r) ∙ ap (λ l. getD l (codeOf r) (f r)) e ∙ at-code g (f r) r
 
--- the numbers from one on, as many as there are rules
+-- the numbers from k on, one for each rule
 abbrev counted : ℕ → List Rule → List ℕ
 counted k [] = []
 counted k (r ∷ rs) = k ∷ counted (suc k) rs

@@ -23,12 +23,12 @@ use Rattle.keywords.proofs.WordLaws.{all-below}
 -- ---- the one rule whose word a field can be
 
 -- a table of codes that two computed tests pass
-pub codes-placed : (codes : Bytes) → length codes ≡ 64 → all (λ code. ltb code 37) codes ≡ true
+pub codes-placed : (codes : Bytes) → length codes ≡ 64 → all (λ code. ltb code (length rules)) codes ≡ true
     → map (λ r. getD codes (placeOf (bytes (wordOf r))) 0) rules ≡ map codeOf rules → CodesPlaced codes
 codes-placed codes count below each =
     record {
       count = count;
-      held = all-below 37 (lit< tt) codes below;
+      held = all-below (length rules) (lit< tt) codes below;
       each = agree-on-each (λ r. getD codes (placeOf (bytes (wordOf r))) 0) codeOf each;
     }
 
@@ -53,7 +53,7 @@ module _ (field : Bytes) where
   pub too-long : 7 < length field → Candidate field 0
   too-long h = record { held = lit< tt; only = λ r e. absurd (omega (arith, fits r e .1)) }
 
-  pub found : (codes : Bytes) → CodesPlaced codes → Candidate field (getD codes (placeOf field) 0)
+  found : (codes : Bytes) → CodesPlaced codes → Candidate field (getD codes (placeOf field) 0)
   found codes placed =
       record {
         held = placed .held (placeOf field);
@@ -109,7 +109,7 @@ module _ (words starts : Bytes) (stand : WordsStand words starts) (code : ℕ) w
       record { ordered = omega (arith, longer); inside = omega (arith, full .0, longer); there = full .1 ∙ sym (word-at code r e) }
 
   -- past the last rule there is no word, and nothing after it
-  past : 37 ≤ code → StandsAt words code (startIn words starts code) (startIn words starts (code + 1))
+  past : length rules ≤ code → StandsAt words code (startIn words starts code) (startIn words starts (code + 1))
   past h =
       let end = length words in
       let from : startIn words starts code ≡ end = List·getD-eq-default starts end (omega (arith, h, stand .count)) in
@@ -123,12 +123,12 @@ module _ (words starts : Bytes) (stand : WordsStand words starts) (code : ℕ) w
             ∙ sym (List·getD-eq-default (map (λ q. bytes (wordOf q)) rules) [] h);
       }
 
-  pub stands-at : StandsAt words code (startIn words starts code) (startIn words starts (code + 1))
-  stands-at = by (ltb code 37) refl
+  stands-at : StandsAt words code (startIn words starts code) (startIn words starts (code + 1))
+  stands-at = by (ltb code (length rules)) refl
     where
-      by : (t : Bool) → ltb code 37 ≡ t → StandsAt words code (startIn words starts code) (startIn words starts (code + 1))
-      by true e = of-rule (getD rules code def) (code-at code (ltb-true code 37 e))
-      by false e = past (ltb-false code 37 e)
+      by : (t : Bool) → ltb code (length rules) ≡ t → StandsAt words code (startIn words starts code) (startIn words starts (code + 1))
+      by true e = of-rule (getD rules code def) (code-at code (ltb-true code (length rules) e))
+      by false e = past (ltb-false code (length rules) e)
 
 -- the same, where the places are known by equations
 pub stands-by : (words starts : Bytes) (code at from to : ℕ) → WordsStand words starts → at ≡ code

@@ -7,7 +7,7 @@ use mathlib.Core.Option.{Option, none, some}
 use lib.Dec.{eqb, leb, ltb}
 use lib.ListN.{length}
 use Rattle.elk.specs.Rules.{Rule, codeOf}
-use Rattle.format.specs.Text.{Bytes, bytes, is, all, sameList}
+use Rattle.format.specs.Text.{Bytes, is, all, sameList}
 use Rattle.parts.specs.Refusals.{badLine, badUnless}
 use Rattle.keywords.specs.declared.Kind.{Kind}
 use Rattle.keywords.specs.declared.Kind.the-variants.{Atom, Formula, Row, Model, Claim, Unknown}

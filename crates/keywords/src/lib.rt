@@ -116,7 +116,8 @@ fn wide(b: u8) -> usize
     b as usize
 }
 
-// The code of the one rule whose word a field can be, where the table has each rule's code at the place of its word.
+// The code of the only rule whose word a field can be, if it is one, where the table has each rule's code at the place of its word. No word
+// has fewer than 2 bytes or more than 7; for another length any code will do.
 fn candidate(codes: &[u8], field: &[u8]) -> u8
     requires { ⌜ CodesPlaced (now codes) ⌝ }
     ensures { λ r. ⌜ Candidate (now (field .entry)) r ⌝ }
@@ -154,14 +155,15 @@ fn is_word(words: &[u8], starts: &[u8], code: u8, field: &[u8]) -> bool
 }
 
 // The code of the rule whose word this is; `NO_RULE` for any other. The words are held once, end to end in the order of their codes, with
-// where each starts; a place that no word has may hold any code.
+// where each starts. In `codes` each rule's code stands at the place of its word; at the other places any code will do, and zeros would take
+// more memory.
 pub fn rule_word(field: &[u8]) -> u32
     ensures { λ r. ⌜ r ≡ ruleCode (ruleOf (now (field .entry))) ⌝ }
 {
     let codes = b"\
         \x0d\x01\x0b\x03\x12\x13\x15\x16\x22\x09\x21\x17\x18\x19\x01\x0f\
         \x10\x11\x12\x13\x1a\x1b\x1c\x17\x18\x11\x1a\x1b\x1c\x1d\x23\x24\
-        \x20\x21\x02\x23\x0e\x00\x1f\x20\x03\x04\x04\x05\x07\x0c\x07\x1d\
+        \x20\x21\x02\x23\x0e\x00\x1f\x20\x03\x14\x04\x05\x07\x0c\x07\x1d\
         \x1e\x0f\x0a\x0e\x06\x10\x11\x10\x09\x14\x00\x16\x08\x18\x19\x14\
         ";
     let code = candidate(codes, field);

@@ -1,5 +1,5 @@
-//! Rule words: every piece of all words end to end, words damaged, glued or lengthened, and
-//! fields that a sum of length and bytes can't tell from a word. A field that isn't a word,
+//! Rule words: every piece of 1 to 8 bytes of all words end to end, words damaged, glued or
+//! lengthened, and fields that a sum of length and bytes can't tell from a word. A field that isn't a word,
 //! whole and byte for byte, earns 3.
 //!
 //! The texts are thousands of single lines, which stand in one file. They have no names but
@@ -47,7 +47,7 @@ pub fn cases() -> Vec<Case> {
     rows.chain(formulas).collect()
 }
 
-/// A row with the field for its rule's word, and a premise that no rule finds.
+/// A row with the field for its rule's word, and a premise that isn't earlier.
 fn row(field: &[u8]) -> Case {
     let known = WORDS.iter().any(|word| word.as_bytes() == field);
     listed(if known { 7 } else { 3 }, [b"N\t0\t", field, b"\t-\t0\t-\t-\n"].concat())
@@ -123,8 +123,8 @@ fn lengthened(word: &[u8]) -> Vec<Field> {
     totals.into_iter().flat_map(of_total).collect()
 }
 
-/// A sum that is another for each word. Whoever looks for a word by it has one candidate,
-/// and must still compare every byte.
+/// A sum that is another for each word. Whoever looks for a word by it, as the proved code
+/// does, has one candidate, and must still compare every byte.
 fn sum(field: &[u8]) -> usize {
     let length = field.len();
     let [second, last_but_one, last] = [1, length - 2, length - 1].map(|at| usize::from(field[at]));
@@ -183,6 +183,12 @@ fn alike(stem: Field, word: &[u8]) -> Vec<Field> {
 #[cfg(test)]
 mod tests {
     use super::*;
+    use crate::rules::ELK;
+
+    #[test]
+    fn the_words_are_the_rules() {
+        assert_eq!(Vec::from(WORDS), Vec::from_iter(ELK.rules.iter().map(|rule| rule.name)));
+    }
 
     #[test]
     fn the_words_are_180_bytes_with_37_sums() {
