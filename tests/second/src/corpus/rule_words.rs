@@ -1,6 +1,6 @@
 //! Rule words: every piece of 1 to 8 bytes of all words end to end, words damaged, glued or
-//! lengthened, and fields that a sum of length and bytes can't tell from a word. A field that isn't a word,
-//! whole and byte for byte, earns 3.
+//! lengthened, and fields that a sum of length and bytes can't tell from a word. A field that
+//! isn't a word, whole and byte for byte, earns 3.
 //!
 //! The texts are thousands of single lines, which stand in one file. They have no names but
 //! themselves.
