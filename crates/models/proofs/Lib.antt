@@ -2,6 +2,5 @@
 pub mod Tested
 pub mod Deciding
 pub mod Passing
-pub mod PartWords
 pub mod Judging
 pub mod Answering

@@ -1,27 +1,22 @@
 // The model beside a claim (paper 02, M-101): whether one is wanted, has few atoms, and is an equilibrium model of the claim's left
 // side, the sheet. The model is one 64-bit word. Its proper parts are counted, and each is judged with the model as a pair of words.
 ghost use mathlib.Core.Path.{_≡_};
-ghost use mathlib.Core.Bool.{not, _&&_, _||_};
+ghost use mathlib.Core.Bool.{not};
 ghost use Prim.Native.Nat.{ℕ, _≤_, _<_, max};
-ghost use lib.Dec.{eqb, ltb};
 ghost use lib.ListN.{length};
 ghost use Rattle.equilibrium.specs.Meaning.{_∈_};
 ghost use Rattle.format.specs.Text.{all};
 ghost use Rattle.format.specs.Tables.{mostFormulas};
 ghost use Rattle.format.specs.Model.{mostInModel};
-ghost use Rattle.atomset.specs.AtomSet.{has, members, setOf};
-ghost use Rattle.pairs.specs.Parts.{part};
+ghost use Rattle.atomset.specs.AtomSet.{members};
 ghost use Rattle.pairs.specs.Truths.{notedAt};
 ghost use Rattle.models.specs.Models.{onlyFalsum, someUpsets, inEquilibrium, Prepared, ModelNumbered};
 use atomset::count;
-use atomset::first;
-use atomset::insert;
-use atomset::is_empty;
-use atomset::without_first;
 use counts::limits::MOST_FORMULAS;
 use pairs::fill_here;
 use pairs::fill_there;
 use pairs::holds;
+use pairs::part_of;
 use tables::records::BOT;
 use tables::records::node;
 use tables::records::wide;
@@ -65,31 +60,6 @@ fn past_largest(side: &[u16]) -> usize
         i += 1;
     }
     past
-}
-
-// The set with the atom, if the lowest digit of n is 1.
-fn with_digit(set: u64, atom: usize, n: u64) -> u64
-    ensures { λ r. ⌜ ((i : ℕ) → has r i ≡ (has set i || (has n 0 && (eqb i atom && ltb atom 64)))) ⌝ }
-{
-    if n % 2 == 1 {
-        return insert(set, atom);
-    }
-    set
-}
-
-// Part n of the model: the j-th atom of the model is in it if n has digit j.
-fn part_of(model: u64, n: u64) -> u64
-    ensures { λ r. ⌜ r ≡ setOf (part n (members model)) ⌝ }
-{
-    let mut set = 0;
-    let mut rest = model;
-    let mut digits = n;
-    while !is_empty(rest) {
-        set = with_digit(set, first(rest), digits);
-        rest = without_first(rest);
-        digits /= 2;
-    }
-    set
 }
 
 // Whether all formulas of a side are noted to hold.

@@ -2,13 +2,19 @@
 // order of the formulas table, so that a formula which others share is judged once. The pair (t,t) is judged first. A negation is
 // as true in (h,t) as in (t,t), and an implication holds in (h,t) only if it does in (t,t).
 ghost use mathlib.Core.Path.{_≡_};
-ghost use mathlib.Core.Bool.{Bool};
+ghost use mathlib.Core.Bool.{Bool, _&&_, _||_};
 ghost use mathlib.Core.List.{List, map};
-ghost use Prim.Native.Nat.{min};
+ghost use Prim.Native.Nat.{ℕ, min};
+ghost use lib.Dec.{eqb, ltb};
 ghost use lib.ListN.{getD};
-ghost use Rattle.atomset.specs.AtomSet.{has};
+ghost use Rattle.atomset.specs.AtomSet.{has, members, setOf};
+ghost use Rattle.pairs.specs.Parts.{part};
 ghost use Rattle.pairs.specs.Truths.{judgedBy, digit, notedAt, NotedThere, NotedHere};
 use atomset::contains;
+use atomset::first;
+use atomset::insert;
+use atomset::is_empty;
+use atomset::without_first;
 use tables::records::AND;
 use tables::records::ATOM;
 use tables::records::IMP;
@@ -122,4 +128,29 @@ pub fn fill_here(formulas: &[u16], count: usize, h: u64, there: &[u8], here: &mu
         here[i] = judged(node(formulas, i), h, own, own, &here[..i]);
         i += 1;
     }
+}
+
+// The set with the atom, if the lowest digit of n is 1.
+fn with_digit(set: u64, atom: usize, n: u64) -> u64
+    ensures { λ r. ⌜ ((i : ℕ) → has r i ≡ (has set i || (has n 0 && (eqb i atom && ltb atom 64)))) ⌝ }
+{
+    if n % 2 == 1 {
+        return insert(set, atom);
+    }
+    set
+}
+
+// Part n of a set: its j-th atom is in it if n has digit j.
+pub fn part_of(set: u64, n: u64) -> u64
+    ensures { λ r. ⌜ r ≡ setOf (part n (members set)) ⌝ }
+{
+    let mut taken = 0;
+    let mut rest = set;
+    let mut digits = n;
+    while !is_empty(rest) {
+        taken = with_digit(taken, first(rest), digits);
+        rest = without_first(rest);
+        digits /= 2;
+    }
+    taken
 }

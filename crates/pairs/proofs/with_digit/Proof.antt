@@ -1,12 +1,12 @@
--- `models::with_digit` meets its contract. Assumes nothing.
+-- `pairs::with_digit` meets its contract. Assumes nothing.
 use mathlib.Core.Bool.{Bool, _&&_, _||_, or-false}
 use mathlib.Core.Path.{sym, ap, _∙_}
 use borrow.Author.Tests.{eq-eqb, ne-eqb}
 use lib.Dec.{eqb, ltb}
 use Rattle.atomset.specs.AtomSet.{has}
 use borrow.Author.Needs.{needs}
-use Rattle.models.proofs.with_digit.Statement.{statement}
-use Rattle.models.proofs.with_digit.Tie as tie
+use Rattle.pairs.proofs.with_digit.Statement.{statement}
+use Rattle.pairs.proofs.with_digit.Tie as tie
 
 insert-requires : tie.Need-insert-requires
 insert-requires c κs = search needs

@@ -1,4 +1,4 @@
--- `models::part_of` meets its contract. The invariant of its loop: the set has what the part takes of the atoms passed. Assumes nothing.
+-- `pairs::part_of` meets its contract. The invariant of its loop: the set has what the part takes of the atoms passed. Assumes nothing.
 use Prim.Native.Nat.{_^_, _<_}
 use native.Mathlib.Omega.{arith}
 use mathlib.Core.Path.{sym, ap, _∙_}
@@ -6,19 +6,19 @@ use borrow.Author.Tests.{not-true, not-false}
 use lib.ListN.{length}
 use Rattle.atomset.specs.AtomSet.{members}
 use Rattle.atomset.proofs.Members.{walk-ends, walk-goes-on}
-use Rattle.models.proofs.PartWords.{Taken, taken-none, taken-next, taken-all}
+use Rattle.pairs.proofs.PartWords.{Taken, taken-none, taken-next, taken-all}
 use borrow.Author.Needs.{needs}
-use Rattle.models.proofs.part_of.Statement.{statement}
-use Rattle.models.proofs.part_of.Tie as tie
+use Rattle.pairs.proofs.part_of.Statement.{statement}
+use Rattle.pairs.proofs.part_of.Tie as tie
 
 abbrev Inv-loop : tie.InvT-loop
-Inv-loop model n set₀ rest₀ digits₀ set rest digits = (set < 2 ^ 64) × (rest < 2 ^ 64) × Taken model n set rest digits
+Inv-loop set n taken₀ rest₀ digits₀ taken rest digits = (taken < 2 ^ 64) × (rest < 2 ^ 64) × Taken set n taken rest digits
 
 abbrev μ-loop : tie.MeasureT-loop
-μ-loop model n set₀ rest₀ digits₀ set rest digits = length (members rest)
+μ-loop set n taken₀ rest₀ digits₀ taken rest digits = length (members rest)
 
 loop-holds : tie.Need-loop-holds Inv-loop μ-loop
-loop-holds c = (search needs, search needs, taken-none (c .args .model) (c .args .n))
+loop-holds c = (search needs, search needs, taken-none (c .args .set) (c .args .n))
 
 is-empty-requires : tie.Need-is-empty-requires Inv-loop μ-loop
 is-empty-requires c κs = search needs
@@ -47,13 +47,13 @@ loop-again c =
     let args = turn .before .args in
     let walk = walk-goes-on (turn .loop .rest) _ _ (sym (picked .before .before .is-empty .ensures) ∙ not-true _ (picked .before .if1 .taken))
     (picked .first .ensures) (c .without-first .ensures) in
-    (search needs, search needs, taken-next (args .model) (args .n) _ _ _ _ _ _ (turn .loop .inv .1) walk (c .before .with-digit .ensures) (turn .loop .inv .2))
+    (search needs, search needs, taken-next (args .set) (args .n) _ _ _ _ _ _ (turn .loop .inv .1) walk (c .before .with-digit .ensures) (turn .loop .inv .2))
 
 returns : tie.Need-returns Inv-loop μ-loop
 returns c =
     let turn = c .before .before in
     let args = turn .before .args in
-    taken-all (args .model) (args .n) (turn .loop .set) (turn .loop .rest) (turn .loop .digits) (search needs) (turn .loop .inv .0)
+    taken-all (args .set) (args .n) (turn .loop .taken) (turn .loop .rest) (turn .loop .digits) (search needs) (turn .loop .inv .0)
     (walk-ends _ (sym (c .before .is-empty .ensures) ∙ not-false _ (c .if1 .left))) (turn .loop .inv .2)
 
 pub part-of-spec : {M : Type 1} → statement M

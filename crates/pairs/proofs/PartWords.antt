@@ -1,4 +1,4 @@
--- A part of a model as a word, put together atom by atom. Assumes nothing.
+-- A part of a set as a word, put together atom by atom. Assumes nothing.
 use Prim.Native.Nat.{ℕ, _/_, _^_, _<_}
 use mathlib.Core.Bool.{Bool, true, false, _&&_, _||_, and-true, or-assoc, or-false}
 use mathlib.Core.List.{List, [], _∷_, List·Memᴰ·head}
