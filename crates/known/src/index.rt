@@ -40,7 +40,7 @@ pub fn note(notes: &[u64], at: usize) -> u64
 }
 
 // Stores a note where the table has room for it.
-pub(crate) fn put_note(notes: &mut [u64], at: usize, note: u64)
+pub fn put_note(notes: &mut [u64], at: usize, note: u64)
     ensures { λ _. ⌜ now (notes .exit) ≡ set (now (notes .entry)) at note ⌝ }
 {
     if at < notes.len() {

@@ -185,7 +185,7 @@ node-there b t i before as-many right (Node.imp j k) e = two b t t i before as-m
 
 module _ {b : Body} {table : List ℕ} (g : Formulas b table) where
   -- what holds of the record and the formula of each node holds of the table's record and the formula of its number
-  each-node : (P : NodeRecord → Formula → Type 0) (i : ℕ) → i < length (b .nodes)
+  pub each-node : (P : NodeRecord → Formula → Type 0) (i : ℕ) → i < length (b .nodes)
       → ((m : Node) → refersAhead (beforeNode b i) m ≡ false → P (recordFrom (nodeRecord m)) (formulaOf (formulas (b .nodes)) m))
       → P (recordFrom (nodeAt table i)) (decodedAt (b .nodes) i)
   each-node P i h p =

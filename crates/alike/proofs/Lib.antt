@@ -1,0 +1,3 @@
+-- The laws of formulas that hold alike.
+pub mod Listing
+pub mod TruthBits

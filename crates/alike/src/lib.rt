@@ -1,0 +1,3 @@
+// Formulas that hold in the same here-and-there pairs.
+mod truths;
+mod under;
