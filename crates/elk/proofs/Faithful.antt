@@ -13,7 +13,7 @@ use Rattle.equilibrium.specs.Meaning.{_∈_, _⊆_}
 use Rattle.equilibrium.proofs.Sets.{from-yes, dec-not, dec-implies, dec-all, ≈-refl}
 use Rattle.elk.specs.Sequent.{Sequent, AllSame}
 use Rattle.elk.specs.Rules.{Rule, Entry, schema, default, cut, unstable, initial, exchange, hasPrincipal, premiseKinds, kindOf, rules, codeOf, wordOf}
-use Rattle.elk.specs.Instance.{InstanceOf, Instance, TooManyAtoms}
+use Rattle.elk.specs.Instance.{Exchanged, InstanceOf, Instance, TooManyAtomsOf, TooManyAtoms}
 use Rattle.elk.specs.Derivation.{Derivation, start, row, EndsIn}
 use Rattle.elk.proofs.RuleCodes.{rule-at-code, every-rule}
 use Rattle.elk.proofs.CommonSets.{every-cons}
@@ -63,6 +63,11 @@ same-kinds [] (t ∷ ts) h = absurd h
 same-kinds (s ∷ ss) [] h = absurd h
 same-kinds (s ∷ ss) (t ∷ ts) h = ap₂ _∷_ (h .0 .kind) (same-kinds ss ts (h .1))
 
+exchanged-shaped : {F G : Formula} {premises : List Sequent} {conclusion : Sequent}
+    → Exchanged F G premises conclusion → Shaped exchange (some F) premises conclusion
+exchanged-shaped {premises = premises} i =
+    record { principal = (λ x. x, λ x. x); above = same-kinds premises _ (i .above); below = i .below .kind }
+
 -- every instance has what number 10 asks, so that 11 is left for the sets alone
 pub instance-shaped : (e : Entry) (F : Option Formula) {premises : List Sequent} {conclusion : Sequent}
     → InstanceOf e F premises conclusion → Shaped e F premises conclusion
@@ -77,9 +82,30 @@ instance-shaped unstable (some F) i = absurd i
 instance-shaped unstable none {premises} i = record { principal = (λ x. x, λ x. x); above = same-kinds premises _ (i .above); below = i .below .kind }
 instance-shaped initial (some F) i = absurd i
 instance-shaped initial none {premises} i = record { principal = (λ x. x, λ x. x); above = same-kinds premises _ (i .above); below = i .below .kind }
-instance-shaped exchange (some F) {premises} i =
-    record { principal = (λ x. x, λ x. x); above = same-kinds premises _ (i .sides .above); below = i .sides .below .kind }
+instance-shaped exchange (some F) i = exchanged-shaped (i .sides)
 instance-shaped exchange none i = absurd i
+
+-- so has every row that number 18 is given
+pub wide-shaped : (e : Entry) (F : Option Formula) {premises : List Sequent} {conclusion : Sequent}
+    → TooManyAtomsOf e F premises conclusion → Shaped e F premises conclusion
+wide-shaped (schema t) F w = absurd w
+wide-shaped default F w = absurd w
+wide-shaped cut F w = absurd w
+wide-shaped unstable F w = absurd w
+wide-shaped initial F w = absurd w
+wide-shaped exchange (some F) w = exchanged-shaped (w .sides)
+wide-shaped exchange none w = absurd w
+
+-- and no such row is an instance
+pub wide-no-instance : (e : Entry) (F : Option Formula) (premises : List Sequent) (conclusion : Sequent)
+    → TooManyAtomsOf e F premises conclusion → InstanceOf e F premises conclusion → ⊥
+wide-no-instance (schema t) F ps s w i = w
+wide-no-instance default F ps s w i = w
+wide-no-instance cut F ps s w i = w
+wide-no-instance unstable F ps s w i = w
+wide-no-instance initial F ps s w i = w
+wide-no-instance exchange (some F) ps s w i = w .none-fits i
+wide-no-instance exchange none ps s w i = w
 
 -- rows, the last one first, each with its premises earlier
 abbrev Linked : List Row → Type 0
