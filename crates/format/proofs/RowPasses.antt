@@ -3,7 +3,7 @@
 -- rows of `swap` with too many atoms.
 use Prim.Native.Nat.{ℕ}
 use mathlib.Core.Path.{_≡_, refl, sym, ap, ap₂, subst}
-use mathlib.Core.Bool.{Bool, true, false, cond, not, _&&_, _||_, false≢true}
+use mathlib.Core.Bool.{Bool, true, false, not, _&&_, _||_, false≢true}
 use mathlib.Core.List.{List, [], _∷_, map}
 use mathlib.Core.Option.{Option, none, some, IsSome}
 use mathlib.Core.Logic.{_↔_}
@@ -86,7 +86,7 @@ pub narrow-of : (b : Body) (r : Row) → (tooManyAtoms b r ≡ false) ↔ (RowTo
 unfolding tooManyAtoms
 narrow-of b r = yes-iff (too-many-atoms? (r .rule) (decodedAt (b .nodes) <$> r .principal) (premisesOf b r) (sequentOf (b .nodes) r))
 
--- such rows have the principal formula and the premises that their rule asks for
+-- rows of both kinds have the principal formula and the premises that their rule asks for
 shaped-right : (b : Body) (r : Row) → Shaped (entry (r .rule)) (decodedAt (b .nodes) <$> r .principal) (premisesOf b r) (sequentOf (b .nodes) r)
     → RightPremises b r
 shaped-right b r shape = record { principal = named (r .principal) (hasPrincipal (entry (r .rule))) (shape .principal); premises = shape .above }
