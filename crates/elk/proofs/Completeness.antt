@@ -1,6 +1,6 @@
--- Completeness: if L entails R then L => R has a derivation, whatever the finite sets L and R. First with each atom
--- fixed on the left by ~~p or ~p, where `unst` serves the one case that is not decided by T alone; then `rcut` takes
--- these formulas away, an atom at a time. `def` and `wr` are not needed.
+-- Completeness: if L entails R then L => R has a derivation by 01's rules, whatever the finite sets L and R. First with
+-- each atom fixed on the left by ~~p or ~p, where `unst` serves the one case that is not decided by T alone; then `rcut`
+-- takes these formulas away, an atom at a time. `def` and `wr` are not needed.
 use Prim.Native.Nat.{ℕ}
 use native.Mathlib.Decide.{ℕ-discrete}
 use mathlib.Core.Path.{_≡_, refl, sym, ap}
@@ -17,11 +17,10 @@ use Rattle.elk.specs.Sequent.{_⇒_}
 use Rattle.elk.specs.Rules.{same, andl, andr, bot, orr, orl, notl, impr, impl, notr, is-any}
 use Rattle.elk.specs.Rules.{is-falsity, is-negation, is-conjunction, is-disjunction, is-implication}
 use Rattle.elk.specs.Instance.{Choice, domain, chosen, literal, fixed, excluded-middle, joined, Rising}
-use Rattle.elk.specs.Derivation.{EndsIn}
 use Rattle.elk.proofs.Sides.{cons-again, cons-swap, cons-middle, append-again, one-without}
 use Rattle.elk.proofs.RisingAtoms.{in-order}
 use Rattle.elk.proofs.Choices.{in-domain, literal-holds, fixed-hold, fixed-atoms, joined-each}
-use Rattle.elk.proofs.Derivable.{Derivable, derivable-same, ends-in-iff, by-rule, by-cut, by-unstable}
+use Rattle.elk.proofs.Derivable.{Derivable, derivable-same, by-rule, by-cut, by-unstable}
 use Rattle.elk.proofs.Refutation.{refutation-complete}
 
 sides : {L M R S : List Formula} → L ≈ M → R ≈ S → Derivable (L ⇒ R) → Derivable (M ⇒ S)
@@ -172,6 +171,6 @@ all-choices (p ∷ atoms) {L} {R} d =
     with-entry : (b : Bool) (c : Choice) → domain c ≡ atoms → Derivable (map fixed c ++ (fixed (p, b) ∷ L) ⇒ R)
     with-entry b c e = sides (cons-middle (map fixed c) L) ≈-refl (d ((p, b) ∷ c) (ap (λ (ps : List ℕ). p ∷ ps) e))
 
-pub complete : (L R : List Formula) → Entails L R → EndsIn L R
+pub complete : (L R : List Formula) → Entails L R → Derivable (L ⇒ R)
 complete L R entailed = let o = in-order (atomsIn L ++ atomsIn R) in
-    ends-in-iff .1 (all-choices (o .0) (λ c e. at-choice entailed c (rw e (o .1)) (rw e (o .2 .1))))
+    all-choices (o .0) (λ c e. at-choice entailed c (rw e (o .1)) (rw e (o .2 .1)))

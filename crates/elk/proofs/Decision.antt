@@ -1,23 +1,28 @@
--- Whether a row is an instance of a rule is decided, for each of the 37 rules, by a function that computes on closed
--- rows: each kind of rule by its characterisation in Entries.
+-- Whether a row is an instance of a rule is decided, for each of the 38 rules, by a function that computes on closed
+-- rows: each kind of rule by its characterisation in Entries or Exchanging. So is what number 18 asks.
 use Prim.Native.Nat.{ℕ}
 use mathlib.Core.Path.{_≡_, refl, sym, subst}
 use mathlib.Core.List.{List, [], _∷_, _++_, map, List·Memᴰ·not-nil, List·Memᴰ·head, Memᴰ·cast}
 use mathlib.Core.Option.{Option, none, some}
-use native.Mathlib.Decide.{ℕ-discrete, decLt}
+use lib.ListN.{length}
+use native.Mathlib.Decide.{ℕ-discrete, decLe, decLt}
 use Rattle.equilibrium.specs.Formula.{Formula, falsum, atom, neg, conj, disj, imp, atomsOf, atomsIn}
 use Rattle.equilibrium.specs.Meaning.{_∈_}
 use Rattle.equilibrium.proofs.Sets.{dec-not, dec-and, dec-implies, dec-map, dec-all, dec-some, dec-in, dec-part, dec-same}
+use Rattle.equilibrium.proofs.Sets.{once, once-same, once-unrepeated}
+use Rattle.equilibrium.proofs.EqualFormulas.{equal?}
 use Rattle.equilibrium.proofs.Satisfaction.{occurs}
 use Rattle.elk.specs.Sequent.{Kind, elk, refutation, Sequent, _⇒_, _⨾_, Same}
-use Rattle.elk.specs.Rules.{Rule, Fits, Added, Schema, Entry, schema, default, cut, unstable, initial, entry}
+use Rattle.elk.specs.Rules.{Rule, Fits, Added, Schema, Entry, schema, default, cut, unstable, initial, exchange, entry}
 use Rattle.elk.specs.Instance.{meant, SchemaInstance, DefaultInstance, CutInstance, UnstableInstance, InitialInstance}
 use Rattle.elk.specs.Instance.{LeftLiteral, left-atom, left-negated, left-verum, RightLiteral, right-atom, right-negated}
 use Rattle.elk.specs.Instance.{right-falsum, domain, chosen, literal, fixed, excluded-middle, joined, Rising, InstanceOf, Instance}
+use Rattle.elk.specs.Instance.{AtMost, mostSwapped, Narrow, Exchanged, SwapInstance, TooWide, TooManyAtomsOf, TooManyAtoms}
 use Rattle.elk.proofs.Equality.{formula-discrete, kind-discrete}
 use Rattle.elk.proofs.CommonSets.{shared?}
 use Rattle.elk.proofs.Parts.{fits?}
 use Rattle.elk.proofs.Entries.{Counted, lefts, rights, schema-iff, default-iff, cutLefts, cut-iff, initial-iff, choiceOf, unstable-iff}
+use Rattle.elk.proofs.Exchanging.{exchanged-iff, swap-iff, too-wide-iff, at-most-iff}
 
 unfoldable pub same? : (s t : Sequent) → Dec (Same s t)
 unfolding dec-map dec-and dec-same kind-discrete formula-discrete
@@ -172,8 +177,48 @@ unstable? (s ∷ t ∷ []) u =
     (dec-and (inhabited? (chosen c))
     (dec-and (same? s (u .left ⇒ joined (map literal c) ∷ [])) (same? t (map fixed c ++ u .left ⨾ joined (map excluded-middle (chosen c)) ∷ [])))))))
 
+unfoldable pub at-most? : (n : ℕ) (ps : List ℕ) → Dec (AtMost n ps)
+unfolding dec-map decLe once ℕ-discrete
+at-most? n ps =
+    let law = at-most-iff (once ℕ-discrete ps) (once-unrepeated ℕ-discrete ps) (once-same ℕ-discrete ps) in
+    dec-map (law .1) (law .0) (decLe (length (once ℕ-discrete ps)) n)
+
+unfoldable pub narrow? : (F G : Formula) → Dec (Narrow F G)
+unfolding at-most?
+narrow? F G = at-most? mostSwapped (atomsOf F ++ atomsOf G)
+
+unfoldable pub exchanged? : (F G : Formula) (s u : Sequent) → Dec (Exchanged F G (s ∷ []) u)
+unfolding dec-map dec-and dec-not dec-implies dec-all dec-in dec-same kind-discrete formula-discrete
+exchanged? F G s u =
+    dec-map (λ h. exchanged-iff .1
+    (record { kinds = h .0; right = h .1 .0; principal = h .1 .1 .0; other = h .1 .1 .1 .0; up = h .1 .1 .1 .1 .0; down = h .1 .1 .1 .1 .1 }))
+    (λ i. let h = exchanged-iff .0 i in (h .kinds, (h .right, (h .principal, (h .other, (h .up, h .down))))))
+    (dec-and (dec-and (kind-discrete (s .kind) elk) (kind-discrete (u .kind) elk))
+    (dec-and (dec-same formula-discrete (s .right) (u .right))
+    (dec-and (dec-in formula-discrete F (u .left))
+    (dec-and (dec-in formula-discrete G (s .left)) (dec-and (all-but? F (u .left) (s .left)) (all-but? G (s .left) (u .left)))))))
+  where
+    -- what one side has besides A, the other has
+    all-but? : (A : Formula) (X Y : List Formula) → Dec ((K : Formula) → K ∈ X → (K ≡ A → ⊥) → K ∈ Y)
+    all-but? A X Y = dec-all (λ K. dec-implies (dec-not (formula-discrete K A)) (dec-in formula-discrete K Y)) X
+
+unfoldable pub swap? : (F : Formula) (premises : List Sequent) (s : Sequent) → Dec (SwapInstance F premises s)
+unfolding dec-map dec-and dec-some exchanged? narrow? equal?
+swap? F [] u = no (λ i. i .sides .above)
+swap? F (s ∷ t ∷ ts) u = no (λ i. i .sides .above .1)
+swap? F (s ∷ []) u =
+    dec-map (swap-iff F s u .1) (swap-iff F s u .0) (dec-some (λ G. dec-and (exchanged? F G s u) (dec-and (narrow? F G) (equal? F G))) (s .left))
+
+unfoldable pub too-wide? : (F : Formula) (premises : List Sequent) (s : Sequent) → Dec (TooWide F premises s)
+unfolding dec-map dec-and dec-not dec-some exchanged? narrow? swap?
+too-wide? F [] u = no (λ w. w .sides .above)
+too-wide? F (s ∷ t ∷ ts) u = no (λ w. w .sides .above .1)
+too-wide? F (s ∷ []) u =
+    dec-map (too-wide-iff F s u .1) (too-wide-iff F s u .0)
+    (dec-and (dec-not (swap? F (s ∷ []) u)) (dec-some (λ G. dec-and (exchanged? F G s u) (dec-not (narrow? F G))) (s .left)))
+
 unfoldable pub instance-of? : (e : Entry) (F : Option Formula) (premises : List Sequent) (s : Sequent) → Dec (InstanceOf e F premises s)
-unfolding schema? default? cut? unstable? initial?
+unfolding schema? default? cut? unstable? initial? swap?
 instance-of? (schema t) (some F) premises s = schema? t F premises s
 instance-of? (schema t) none premises s = no (λ i. i)
 instance-of? default (some F) premises s = default? F premises s
@@ -184,8 +229,25 @@ instance-of? unstable (some F) premises s = no (λ i. i)
 instance-of? unstable none premises s = unstable? premises s
 instance-of? initial (some F) premises s = no (λ i. i)
 instance-of? initial none premises s = initial? premises s
+instance-of? exchange (some F) premises s = swap? F premises s
+instance-of? exchange none premises s = no (λ i. i)
 
 -- whether the row follows by the rule from the premises
 unfoldable pub instance? : (r : Rule) (F : Option Formula) (premises : List Sequent) (s : Sequent) → Dec (Instance r F premises s)
 unfolding instance-of?
 instance? r = instance-of? (entry r)
+
+unfoldable pub too-many-atoms-of? : (e : Entry) (F : Option Formula) (premises : List Sequent) (s : Sequent) → Dec (TooManyAtomsOf e F premises s)
+unfolding too-wide?
+too-many-atoms-of? (schema t) F premises s = no (λ w. w)
+too-many-atoms-of? default F premises s = no (λ w. w)
+too-many-atoms-of? cut F premises s = no (λ w. w)
+too-many-atoms-of? unstable F premises s = no (λ w. w)
+too-many-atoms-of? initial F premises s = no (λ w. w)
+too-many-atoms-of? exchange (some F) premises s = too-wide? F premises s
+too-many-atoms-of? exchange none premises s = no (λ w. w)
+
+-- whether number 18 is to be given
+unfoldable pub too-many-atoms? : (r : Rule) (F : Option Formula) (premises : List Sequent) (s : Sequent) → Dec (TooManyAtoms r F premises s)
+unfolding too-many-atoms-of?
+too-many-atoms? r = too-many-atoms-of? (entry r)

@@ -1,49 +1,45 @@
 -- Derivable sequents: those that some derivation ends in, its last row read as sets. A rule takes derivable premises
--- to a derivable conclusion, so that a derivation is built with no word about its rows.
+-- to a derivable conclusion, so that a derivation is built with no word about its rows. Only 01's rules are used.
 use Prim.Native.Nat.{ℕ}
 use mathlib.Core.List.{List, [], _∷_, _++_, map, List·Memᴰ·head, List·Memᴰ·cases-cons, Memᴰ·append-left, Memᴰ·append-right}
 use mathlib.Core.Option.{Option, none, some}
-use mathlib.Core.Logic.{⊎-elim, _↔_}
+use mathlib.Core.Logic.{⊎-elim}
+use mathlib.Core.Path.{_≡_, refl, sym, subst}
 use Rattle.equilibrium.specs.Formula.{Formula, atom, neg, atomsIn}
 use Rattle.equilibrium.specs.Meaning.{_∈_, _⊆_, _≈_}
 use Rattle.elk.specs.Sequent.{Sequent, _⇒_, _⨾_, Same, AllSame}
-use Rattle.elk.specs.Rules.{Rule, rcut, unst, xini, Fits, Entry, schema, default, cut, unstable, initial, entry}
+use Rattle.elk.specs.Rules.{Rule, rcut, unst, xini, swap, Fits, Entry, schema, default, cut, unstable, initial, exchange, entry, first-rules, codeOf}
 use Rattle.elk.specs.Instance.{meant, filled, Choice, domain, chosen, literal, fixed, excluded-middle}
 use Rattle.elk.specs.Instance.{joined, Rising, LeftLiteral, RightLiteral, InstanceOf, Instance}
-use Rattle.elk.specs.Derivation.{Derivation, start, row, EndsIn}
+use Rattle.elk.specs.Derivation.{Derivation, start, row, DerivableBy}
+use Rattle.elk.proofs.RuleCodes.{at-in, first-or-swap}
 use Rattle.elk.proofs.Steps.{same-refl, same-trans, All, formOf, Keeps}
 
--- some derivation's last row is this sequent
-pub record Derivable (s : Sequent) : Type 0 where
-  pub last : Sequent
-  pub earlier : List Sequent
-  pub derivation : Derivation (last ∷ earlier)
-  pub ends : Same last s
-
-pub ends-in-iff : {L R : List Formula} → EndsIn L R ↔ Derivable (L ⇒ R)
-ends-in-iff = (
-  λ d. record {
-    last = d .last;
-    earlier = d .earlier;
-    derivation = d .derivation;
-    ends = d .ends;
-  },
-  λ d. record { last = d .last; earlier = d .earlier; derivation = d .derivation; ends = d .ends },
-)
+-- derivable by 01's rules alone
+abbrev pub Derivable : Sequent → Type 0
+Derivable s = DerivableBy first-rules s
 
 -- being derivable is a matter of the sides as sets
 pub derivable-same : {s t : Sequent} → Same s t → Derivable s → Derivable t
 derivable-same e d = record { last = d .last; earlier = d .earlier; derivation = d .derivation; ends = same-trans (d .ends) e }
 
 -- two derivations one after the other
-join : {ss ts : List Sequent} → Derivation ss → Derivation ts → Derivation (ss ++ ts)
+join : {usable : List Rule} {ss ts : List Sequent} → Derivation usable ss → Derivation usable ts → Derivation usable (ss ++ ts)
 join start e = e
-join {ts = ts} (row d r F premises inside i) e = row (join d e) r F premises (λ s m. Memᴰ·append-left ts (inside s m)) i
+join {ts = ts} (row d r u F premises inside i) e = row (join d e) r u F premises (λ s m. Memᴰ·append-left ts (inside s m)) i
+
+-- with more rules to use a derivation is still one
+more : {few many : List Rule} → few ⊆ many → {rows : List Sequent} → Derivation few rows → Derivation many rows
+more s start = start
+more s (row d r u F premises inside i) = row (more s d) r (s r u) F premises inside i
+
+pub derivable-more : {few many : List Rule} → few ⊆ many → {s : Sequent} → DerivableBy few s → DerivableBy many s
+derivable-more i d = record { last = d .last; earlier = d .earlier; derivation = more i (d .derivation); ends = d .ends }
 
 -- one derivation with all of these sequents among its rows
 record Gathered (ss : List Sequent) : Type 0 where
   rows : List Sequent
-  derivation : Derivation rows
+  derivation : Derivation first-rules rows
   found : List Sequent
   inside : found ⊆ rows
   same : AllSame found ss
@@ -64,39 +60,44 @@ gather (s ∷ ss) d = add (d .0) (gather ss (d .1))
         }
 
 -- one more row, with premises that are derivable
-by-instance : (r : Rule) (F : Option Formula) (premises : List Sequent) {s : Sequent}
+by-instance : (r : Rule) → r ∈ first-rules → (F : Option Formula) (premises : List Sequent) {s : Sequent}
     → All Derivable premises → ((found : List Sequent) → AllSame found premises → Instance r F found s) → Derivable s
-by-instance r F premises {s} d i = last (gather premises d)
+by-instance r u F premises {s} d i = last (gather premises d)
   where
     last : Gathered premises → Derivable s
-    last g = record { last = s; earlier = g .rows; derivation = row (g .derivation) r F (g .found) (g .inside) (i (g .found) (g .same)); ends = same-refl }
+    last g = record { last = s; earlier = g .rows; derivation = row (g .derivation) r u F (g .found) (g .inside) (i (g .found) (g .same)); ends = same-refl }
 
 -- by-rule andr is-conjunction L R (d, (e, tt)) : Derivable (L ⇒ conj A B ∷ R)
 pub by-rule : (r : Rule) {F G H : Formula} → Fits (formOf (entry r)) F G H → (L R : List Formula) → Keeps Derivable (entry r) F G H L R
-by-rule r {F} {G} {H} f L R = go (entry r) (λ ps s i. i) f
+by-rule r {F} {G} {H} f L R =
+    ⊎-elim (λ u. go u (entry r) (λ ps s i. i) f) (λ (e : r ≡ swap). subst (λ q. Keeps Derivable (entry q) F G H L R) (sym e) tt) (first-or-swap r)
   where
-    go : (e : Entry) → ((premises : List Sequent) (s : Sequent) → InstanceOf e (some F) premises s → Instance r (some F) premises s)
+    go : r ∈ first-rules → (e : Entry)
+        → ((premises : List Sequent) (s : Sequent) → InstanceOf e (some F) premises s → Instance r (some F) premises s)
         → Fits (formOf e) F G H → Keeps Derivable e F G H L R
-    go (schema t) up f =
-        λ d. by-instance r (some F) (map (filled (meant F G H) L R (t .kind)) (t .premises)) d
+    go u (schema t) up f =
+        λ d. by-instance r u (some F) (map (filled (meant F G H) L R (t .kind)) (t .premises)) d
         (λ found e. up found _ (record { first = G; second = H; fits = f; L = L; R = R; above = e; below = same-refl }))
-    go default up f = tt
-    go cut up f = tt
-    go unstable up f = tt
-    go initial up f = tt
+    go u default up f = tt
+    go u cut up f = tt
+    go u unstable up f = tt
+    go u initial up f = tt
+    go u exchange up f = tt
 
 pub by-cut : {F : Formula} {L R Q : List Formula} → Derivable (L ⇒ F ∷ R) → Derivable (F ∷ L ⇒ Q) → Derivable (L ⇒ R ++ Q)
 by-cut {F} {L} {R} {Q} d e =
-    by-instance rcut (some F) ((L ⇒ F ∷ R) ∷ (F ∷ L ⇒ Q) ∷ []) (d, (e, tt)) (λ found k. record { L = L; R = R; Q = Q; above = k; below = same-refl })
+    by-instance rcut (at-in first-rules (codeOf rcut) refl) (some F) ((L ⇒ F ∷ R) ∷ (F ∷ L ⇒ Q) ∷ []) (d, (e, tt))
+    (λ found k. record { L = L; R = R; Q = Q; above = k; below = same-refl })
 
 pub by-unstable : (c : Choice) {p : ℕ} {L R : List Formula} → Rising (domain c) → domain c ≈ atomsIn L → p ∈ chosen c
     → Derivable (L ⇒ joined (map literal c) ∷ []) → Derivable (map fixed c ++ L ⨾ joined (map excluded-middle (chosen c)) ∷ []) → Derivable (L ⇒ R)
 by-unstable c {p} {L} {R} rising atoms m d e =
-    by-instance unst none ((L ⇒ joined (map literal c) ∷ []) ∷ (map fixed c ++ L ⨾ joined (map excluded-middle (chosen c)) ∷ []) ∷ []) (d, (e, tt))
+    by-instance unst (at-in first-rules (codeOf unst) refl) none
+    ((L ⇒ joined (map literal c) ∷ []) ∷ (map fixed c ++ L ⨾ joined (map excluded-middle (chosen c)) ∷ []) ∷ []) (d, (e, tt))
     (λ found k. record { L = L; R = R; choice = c; rising = rising; atoms = atoms; member = p; not-empty = m; above = k; below = same-refl })
 
 pub by-initial : {L R : List Formula} → ((F : Formula) → F ∈ L → LeftLiteral F) → ((F : Formula) → F ∈ R → RightLiteral F)
     → ((F : Formula) → F ∈ L → F ∈ R → ⊥) → ((p : ℕ) → atom p ∈ L → neg (atom p) ∈ L → ⊥) → Derivable (L ⨾ R)
 by-initial {L} {R} lefts rights apart consistent =
-    by-instance xini none [] tt
+    by-instance xini (at-in first-rules (codeOf xini) refl) none [] tt
     (λ found k. record { L = L; R = R; lefts = lefts; rights = rights; apart = apart; consistent = consistent; above = k; below = same-refl })

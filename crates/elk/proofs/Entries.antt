@@ -1,5 +1,5 @@
--- Each of the five entries of the table characterised by tests on the row and its premises, with no set to be found. The
--- decision of an instance rests on these laws, and so may any running test of rows.
+-- Each entry of the table, but for `swap` (Exchanging), characterised by tests on the row and its premises, with no set to
+-- be found. The decision of an instance rests on these laws, and so may any running test of rows.
 use Prim.Native.Nat.{ℕ}
 use mathlib.Core.Path.{_≡_, refl, sym, _∙_, ap, ap₂, subst}
 use mathlib.Core.Bool.{Bool, true, false}

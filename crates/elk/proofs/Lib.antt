@@ -5,6 +5,7 @@ pub mod Rising
 pub mod RisingAtoms
 pub mod Choices
 pub mod Steps
+pub mod RuleCodes
 pub mod Derivable
 pub mod Validity
 pub mod TableSoundness
@@ -16,6 +17,7 @@ pub mod Equality
 pub mod CommonSets
 pub mod Parts
 pub mod Entries
+pub mod Exchanging
 pub mod Decision
 pub mod Rows
 pub mod Faithful

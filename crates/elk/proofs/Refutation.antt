@@ -9,7 +9,7 @@ use Rattle.equilibrium.specs.Meaning.{_∈_, _⊆_, Holds, AllHold, NoneHolds}
 use Rattle.equilibrium.proofs.Sets.{≈-refl, ≈-sym}
 use Rattle.equilibrium.proofs.Satisfaction.{persists, holds?}
 use Rattle.elk.specs.Sequent.{Sequent, _⨾_}
-use Rattle.elk.specs.Rules.{Rule, Fits, Added, Entry, schema, default, cut, unstable, initial, entry, xnnl, xnnr, xandl, xandr1}
+use Rattle.elk.specs.Rules.{Rule, Fits, Added, Entry, schema, default, cut, unstable, initial, exchange, entry, xnnl, xnnr, xandl, xandr1}
 use Rattle.elk.specs.Rules.{xandr2, xorr, xorl1, xorl2, ximpl1, ximpl2, ximpl3, ximpr1, ximpr2, xnimpl, xnimpr1, xnimpr2}
 use Rattle.elk.specs.Rules.{xnandl1, xnandl2, xnandr, xnorl, xnorr1, xnorr2, is-conjunction, is-disjunction, is-implication}
 use Rattle.elk.specs.Rules.{is-double-negation, is-negated-conjunction, is-negated-disjunction, is-negated-implication}
@@ -47,6 +47,7 @@ module _ {H T : List ℕ} (inside : H ⊆ T) where
       step cut rule = tt
       step unstable rule = tt
       step initial rule = tt
+      step exchange rule = tt
 
   literal-left : {A : Formula} (L R : List Formula) → LeftLiteral A → Holds H T A → Reachable H T (L ⨾ R) → Reachable H T (A ∷ L ⨾ R)
   literal-left {A} L R a h k P Q p q = derivable-same (record { kind = refl; left = ≈-sym (cons-middle L P); right = ≈-refl }) (k (A ∷ P) Q more q)

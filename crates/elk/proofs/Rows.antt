@@ -1,12 +1,12 @@
--- Rows derived by hand from 01's text: for each rule rows in general position that are instances, near misses that are
--- none, and the rows of 01's whole file. Faithful proves them so.
+-- Rows derived by hand from 01's text and 02's: for each rule rows in general position that are instances, near misses
+-- that are none, rows that number 18 is given, and the rows of 01's whole file. Faithful proves them so.
 use mathlib.Core.List.{List, [], _∷_}
 use mathlib.Core.Option.{Option, none, some}
 use Rattle.equilibrium.specs.Formula.{Formula, falsum, atom, neg, conj, disj, imp}
 use Rattle.elk.specs.Sequent.{Sequent, _⇒_, _⨾_}
 use Rattle.elk.specs.Rules.{Rule, def, same, andl, andr, wr, bot, orr, orl, notl, impr, impl, notr, rcut, unst, xini}
 use Rattle.elk.specs.Rules.{xnnl, xnnr, xandl, xandr1, xandr2, xorr, xorl1, xorl2, ximpl1, ximpl2, ximpl3, ximpr1}
-use Rattle.elk.specs.Rules.{ximpr2, xnimpl, xnimpr1, xnimpr2, xnandl1, xnandl2, xnandr, xnorl, xnorr1, xnorr2}
+use Rattle.elk.specs.Rules.{ximpr2, xnimpl, xnimpr1, xnimpr2, xnandl1, xnandl2, xnandr, xnorl, xnorr1, xnorr2, swap}
 
 -- Formulas as 01 writes them, with ∣ for its bar.
 infixr 80 ~_
@@ -39,6 +39,13 @@ c = atom 2
 
 abbrev pub d : Formula
 d = atom 3
+
+-- conjunctions of eight atoms and of nine
+abbrev pub eight : Formula
+eight = a & b & c & d & atom 4 & atom 5 & atom 6 & atom 7
+
+abbrev pub nine : Formula
+nine = atom 8 & eight
 
 pub record Row : Type 0 where
   pub rule : Rule
@@ -155,6 +162,19 @@ instances =
     ∷ after xnorr1 (~ (a ∣ b)) (c ∷ [] ⨾ ~ (a ∣ b) ∷ ~ a ∷ []) (c ∷ [] ⨾ ~ (a ∣ b) ∷ [])
     ∷ after xnorr2 (~ (a ∣ b)) (c ∷ [] ⨾ d ∷ ~ b ∷ []) (c ∷ [] ⨾ d ∷ ~ (a ∣ b) ∷ [])
     ∷ after xnorr2 (~ (a ∣ b)) (c ∷ [] ⨾ ~ (a ∣ b) ∷ ~ b ∷ []) (c ∷ [] ⨾ ~ (a ∣ b) ∷ [])
+    -- swap: A kept in L, B kept, both, B the same as A
+    ∷ after swap (a & b) (b & a ∷ c ∷ [] ⇒ d ∷ []) (c ∷ a & b ∷ [] ⇒ d ∷ [])
+    ∷ after swap (a & b) (a & b ∷ b & a ∷ [] ⇒ d ∷ []) (a & b ∷ [] ⇒ d ∷ [])
+    ∷ after swap (a & b) (b & a ∷ [] ⇒ d ∷ []) (b & a ∷ a & b ∷ [] ⇒ d ∷ [])
+    ∷ after swap (a & b) (b & a ∷ a & b ∷ [] ⇒ d ∷ []) (a & b ∷ b & a ∷ [] ⇒ d ∷ [])
+    ∷ after swap (a -> b) (a -> b ∷ c ∷ [] ⇒ []) (c ∷ a -> b ∷ [] ⇒ [])
+    -- swap: equal though H outside T would tell them apart, equal in other forms, one B of several, beside a wide one, eight atoms
+    ∷ after swap # (a & ~ a ∷ [] ⇒ b ∷ []) (# ∷ [] ⇒ b ∷ [])
+    ∷ after swap (~ a) (~ ~ ~ a ∷ [] ⇒ a ∷ b ∷ []) (~ a ∷ [] ⇒ b ∷ a ∷ [])
+    ∷ after swap (~ (a & b)) (~ ~ (~ a ∣ ~ b) ∷ [] ⇒ c ∷ []) (~ (a & b) ∷ [] ⇒ c ∷ [])
+    ∷ after swap (a & b) (c ∷ b & a ∷ ~ c ∷ [] ⇒ d ∷ []) (a & b ∷ ~ c ∷ c ∷ b & a ∷ [] ⇒ d ∷ [])
+    ∷ after swap (a & b) (b & a ∷ nine ∷ [] ⇒ d ∷ []) (nine ∷ a & b ∷ b & a ∷ [] ⇒ d ∷ [])
+    ∷ after swap eight (eight ∷ [] ⇒ d ∷ []) (eight ∷ [] ⇒ d ∷ [])
     ∷ []
 
 -- 01's whole file: its sequents, and its rows from the last to the first; p is a
@@ -303,6 +323,24 @@ near-misses =
     ∷ after xnorl (~ (a ∣ b)) (c ∷ ~ a ∷ [] ⨾ d ∷ []) (c ∷ ~ (a ∣ b) ∷ [] ⨾ d ∷ [])
     ∷ after xnorr1 (~ (a ∣ b)) (c ∷ [] ⨾ d ∷ ~ b ∷ []) (c ∷ [] ⨾ d ∷ ~ (a ∣ b) ∷ [])
     ∷ after xnorr2 (~ (a ∣ b)) (c ∷ [] ⨾ d ∷ ~ a ∷ []) (c ∷ [] ⨾ d ∷ ~ (a ∣ b) ∷ [])
+    -- swap: equal classically alone, equal where T has all atoms alone, not equal
+    ∷ after swap a (~ ~ a ∷ [] ⇒ d ∷ []) (a ∷ [] ⇒ d ∷ [])
+    ∷ after swap (a -> b) (~ a ∣ b ∷ [] ⇒ d ∷ []) (a -> b ∷ [] ⇒ d ∷ [])
+    ∷ after swap # (~ a ∷ [] ⇒ d ∷ []) (# ∷ [] ⇒ d ∷ [])
+    ∷ after swap a (b ∷ [] ⇒ d ∷ []) (a ∷ [] ⇒ d ∷ [])
+    -- swap: another R, L lost, L that comes in, A not left, A and B right, nine atoms
+    ∷ after swap (a & b) (b & a ∷ [] ⇒ d ∷ []) (a & b ∷ [] ⇒ c ∷ [])
+    ∷ after swap (a & b) (b & a ∷ [] ⇒ d ∷ []) (a & b ∷ [] ⇒ d ∷ c ∷ [])
+    ∷ after swap (a & b) (b & a ∷ c ∷ [] ⇒ d ∷ []) (a & b ∷ [] ⇒ d ∷ [])
+    ∷ after swap (a & b) (b & a ∷ [] ⇒ d ∷ []) (a & b ∷ c ∷ [] ⇒ d ∷ [])
+    ∷ after swap (a & b) (b & a ∷ [] ⇒ d ∷ []) (b & a ∷ [] ⇒ d ∷ [])
+    ∷ after swap (a & b) (c ∷ [] ⇒ b & a ∷ []) (c ∷ [] ⇒ a & b ∷ [])
+    ∷ after swap nine (nine ∷ [] ⇒ d ∷ []) (nine ∷ [] ⇒ d ∷ [])
+    -- swap: no premise, two, of refutation, in refutation
+    ∷ alone swap a (a ∷ [] ⇒ a ∷ [])
+    ∷ after-two swap a (a ∷ [] ⇒ d ∷ []) (a ∷ [] ⇒ d ∷ []) (a ∷ [] ⇒ d ∷ [])
+    ∷ after swap a (a ∷ [] ⨾ d ∷ []) (a ∷ [] ⇒ d ∷ [])
+    ∷ after swap a (a ∷ [] ⨾ d ∷ []) (a ∷ [] ⨾ d ∷ [])
     -- a premise or a conclusion of the other calculus
     ∷ after andl (a & b) (a ∷ b ∷ [] ⨾ d ∷ []) (a & b ∷ [] ⇒ d ∷ [])
     ∷ after-two andr (a & b) (c ∷ [] ⇒ a ∷ []) (c ∷ [] ⨾ b ∷ []) (c ∷ [] ⇒ a & b ∷ [])
@@ -316,8 +354,27 @@ near-misses =
     ∷ unnamed andl ((a ∷ b ∷ [] ⇒ d ∷ []) ∷ []) (a & b ∷ [] ⇒ d ∷ [])
     ∷ unnamed def [] ([] ⇒ ~ a ∷ [])
     ∷ unnamed rcut ((c ∷ [] ⇒ a ∷ []) ∷ (c ∷ a ∷ [] ⇒ d ∷ []) ∷ []) (c ∷ [] ⇒ d ∷ [])
+    ∷ unnamed swap ((a ∷ [] ⇒ d ∷ []) ∷ []) (a ∷ [] ⇒ d ∷ [])
     ∷ after-two unst a (~ ~ a ∷ [] ⇒ a ∷ []) (~ ~ a ∷ [] ⨾ a ∣ ~ a ∷ []) (~ ~ a ∷ [] ⇒ b ∷ [])
     ∷ alone xini a (a ∷ [] ⨾ b ∷ [])
     -- row 4 of the whole file with its premises exchanged
     ∷ after-two impl (~ a -> a) row-3 row-2 row-4
+    ∷ []
+
+-- rows that number 18 is given: B the same as A, B not equal to A, a B beside a narrow one that is not equal
+abbrev pub too-wide : List Row
+too-wide =
+    after swap nine (nine ∷ [] ⇒ d ∷ []) (nine ∷ [] ⇒ d ∷ [])
+    ∷ after swap a (nine ∷ [] ⇒ d ∷ []) (a ∷ [] ⇒ d ∷ [])
+    ∷ after swap a (b ∷ nine ∷ [] ⇒ d ∷ []) (a ∷ nine ∷ b ∷ [] ⇒ d ∷ [])
+    ∷ []
+
+-- and rows that it is not: a narrow B fits beside the wide one; the wide one leaves other sides; no wide one; another rule
+abbrev pub not-too-wide : List Row
+not-too-wide =
+    after swap (a & b) (b & a ∷ nine ∷ [] ⇒ d ∷ []) (nine ∷ a & b ∷ b & a ∷ [] ⇒ d ∷ [])
+    ∷ after swap a (b ∷ nine ∷ [] ⇒ d ∷ []) (a ∷ nine ∷ [] ⇒ d ∷ [])
+    ∷ after swap nine (nine ∷ [] ⇒ d ∷ []) (nine ∷ [] ⇒ c ∷ [])
+    ∷ after swap a (~ ~ a ∷ [] ⇒ d ∷ []) (a ∷ [] ⇒ d ∷ [])
+    ∷ after wr nine (nine ∷ [] ⇒ []) (nine ∷ [] ⇒ d ∷ [])
     ∷ []

@@ -2,17 +2,9 @@
 use mathlib.Core.List.{List, [], _∷_, _++_, List·Memᴰ·head, List·Memᴰ·tail, Memᴰ·cast, Memᴰ·append-left, List·Memᴰ·append-cases}
 use mathlib.Core.Logic.{⊎-elim, dite}
 use Rattle.equilibrium.specs.Meaning.{_∈_, _⊆_, _≈_}
-use Rattle.equilibrium.proofs.Sets.{≈-refl, ≈-trans, dec-not, dec-some}
+use Rattle.equilibrium.proofs.Sets.{≈-refl, ≈-trans, ≈-cons, dec-not, dec-some}
 
 module _ {X : Type 0} where
-  cons-part : {x : X} {xs ys : List X} → xs ⊆ ys → x ∷ xs ⊆ x ∷ ys
-  cons-part s y (List·Memᴰ·head e) = List·Memᴰ·head e
-  cons-part s y (List·Memᴰ·tail m) = List·Memᴰ·tail (s y m)
-
-  -- one member more in both
-  pub cons-same : {x : X} {xs ys : List X} → xs ≈ ys → (x ∷ xs) ≈ (x ∷ ys)
-  cons-same e = (cons-part (e .0), cons-part (e .1))
-
   again-part : {x : X} {xs : List X} → x ∈ xs → x ∷ xs ⊆ xs
   again-part m y (List·Memᴰ·head e) = Memᴰ·cast e m
   again-part m y (List·Memᴰ·tail k) = k
@@ -32,7 +24,7 @@ module _ {X : Type 0} where
   -- a member from the front to the middle
   pub cons-middle : {x : X} (xs ys : List X) → (x ∷ xs ++ ys) ≈ (xs ++ (x ∷ ys))
   cons-middle [] ys = ≈-refl
-  cons-middle (z ∷ xs) ys = ≈-trans cons-swap (cons-same (cons-middle xs ys))
+  cons-middle (z ∷ xs) ys = ≈-trans cons-swap (≈-cons (cons-middle xs ys))
 
   pub append-again : (xs : List X) → (xs ++ xs) ≈ xs
   append-again xs = (λ x m. ⊎-elim (λ k. k) (λ k. k) (List·Memᴰ·append-cases xs m), λ x m. Memᴰ·append-left xs m)

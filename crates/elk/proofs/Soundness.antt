@@ -1,5 +1,5 @@
 -- Soundness: every row of a derivation is valid, so a derivation that ends in L => R shows that L entails R. The rules
--- in no table, `def`, `rcut`, `unst` and `xini`, come first.
+-- in no table, `def`, `rcut`, `unst`, `xini` and `swap`, come first.
 use Prim.Native.Nat.{ℕ}
 use native.Mathlib.Decide.{ℕ-discrete}
 use native.Mathlib.Omega.{arith}
@@ -10,19 +10,18 @@ use mathlib.Core.List.{List·Memᴰ·eq-of-singleton, Memᴰ·append-left, Mem�
 use mathlib.Core.Option.{Option, none, some}
 use mathlib.Core.Logic.{inl, ⊎-elim, _↔_, Dec·not-not}
 use Rattle.equilibrium.specs.Formula.{Formula, atom, neg, atomsOf, atomsIn}
-use Rattle.equilibrium.specs.Meaning.{_⊆_, _≈_, _∈_, Holds, AllHold, Equilibrium, Entails}
+use Rattle.equilibrium.specs.Meaning.{_⊆_, _≈_, _∈_, Holds, AllHold, Equilibrium, Entails, Equal}
 use Rattle.equilibrium.proofs.Sets.{dec-in, those, in-those}
 use Rattle.equilibrium.proofs.Satisfaction.{all-agree}
 use Rattle.equilibrium.proofs.Models.{only-occurring}
 use Rattle.elk.specs.Sequent.{Sequent, AllSame}
-use Rattle.elk.specs.Rules.{Rule, Fits, Entry, schema, default, cut, unstable, initial, entry}
+use Rattle.elk.specs.Rules.{Rule, Fits, Entry, schema, default, cut, unstable, initial, exchange, entry}
 use Rattle.elk.specs.Instance.{Choice, domain, chosen, literal, fixed, excluded-middle, joined, LeftLiteral, left-atom, left-negated}
 use Rattle.elk.specs.Instance.{left-verum, RightLiteral, right-atom, right-negated, right-falsum, InstanceOf, Instance}
-use Rattle.elk.specs.Derivation.{Derivation, row, EndsIn}
+use Rattle.elk.specs.Derivation.{Derivation, row, DerivableBy, EndsIn}
 use Rattle.elk.proofs.Choices.{in-domain, in-chosen, joined-each}
 use Rattle.elk.proofs.Steps.{same-sym, All, formOf, Keeps}
-use Rattle.elk.proofs.Derivable.{Derivable, ends-in-iff}
-use Rattle.elk.proofs.Validity.{Refutable, Valid, valid-same, all-head, all-tail, some-head, some-cases, keep}
+use Rattle.elk.proofs.Validity.{Refutable, Valid, valid-same, carry, all-cons, all-head, all-tail, some-head, some-cases, keep}
 use Rattle.elk.proofs.TableSoundness.{table-sound}
 
 -- the atoms of a list of atoms are its members
@@ -144,6 +143,12 @@ xini-sound {L} {R} lefts rights apart consistent =
     fails (right-negated {p}) m h = h (Memᴰ·append-right H (more .1 p .1 m))
     fails right-falsum m h = h
 
+-- an equilibrium model of L,A is one of L,B
+swap-sound : {F G : Formula} {L R : List Formula} → Equal F G → Entails (G ∷ L) R → Entails (F ∷ L) R
+swap-sound same v T e =
+    let model = all-cons (same T T (λ p m. m) .0 (all-head (e .model))) (all-tail (e .model)) in
+    v T (carry model (λ H s h. all-cons (same H T s .1 (all-head h)) (all-tail h)) e)
+
 -- valid premises are valid as the rule writes them
 premises-valid : (ss ts : List Sequent) → AllSame ss ts → ((p : Sequent) → p ∈ ss → Valid p) → All Valid ts
 premises-valid [] [] e v = tt
@@ -166,20 +171,23 @@ entry-sound unstable keeps none premises s i v = let w = premises-valid premises
     valid-same (same-sym (i .below)) (λ T e. absurd (unst-sound (i .choice) (i .atoms) (i .not-empty) (w .0) (w .1 .0) T e))
 entry-sound initial keeps (some F) premises s i v = absurd i
 entry-sound initial keeps none premises s i v = valid-same (same-sym (i .below)) (xini-sound (i .lefts) (i .rights) (i .apart) (i .consistent))
+entry-sound exchange keeps (some F) premises s i v =
+    valid-same (same-sym (i .sides .below)) (swap-sound (i .equal) (premises-valid premises _ (i .sides .above) v .0))
+entry-sound exchange keeps none premises s i v = absurd i
 
 -- every rule: where the premises are valid, so is the conclusion
 pub rule-sound : (r : Rule) (F : Option Formula) (premises : List Sequent) (s : Sequent)
     → Instance r F premises s → ((p : Sequent) → p ∈ premises → Valid p) → Valid s
 rule-sound r = entry-sound (entry r) (λ F G H. table-sound r)
 
--- every row of a derivation is valid
-pub derivation-sound : {rows : List Sequent} → Derivation rows → (s : Sequent) → s ∈ rows → Valid s
-derivation-sound (row d r F premises {s = last} inside i) s (List·Memᴰ·head e) =
+-- every row of a derivation is valid, whatever rules it uses
+pub derivation-sound : {usable : List Rule} {rows : List Sequent} → Derivation usable rows → (s : Sequent) → s ∈ rows → Valid s
+derivation-sound (row d r u F premises {s = last} inside i) s (List·Memᴰ·head e) =
     rw e (rule-sound r F premises last i (λ p m. derivation-sound d p (inside p m)))
-derivation-sound (row d r F premises inside i) s (List·Memᴰ·tail m) = derivation-sound d s m
+derivation-sound (row d r u F premises inside i) s (List·Memᴰ·tail m) = derivation-sound d s m
 
-pub derivable-sound : {s : Sequent} → Derivable s → Valid s
+pub derivable-sound : {usable : List Rule} {s : Sequent} → DerivableBy usable s → Valid s
 derivable-sound d = valid-same (d .ends) (derivation-sound (d .derivation) (d .last) (List·Memᴰ·head refl))
 
 pub ends-in-sound : {L R : List Formula} → EndsIn L R → Entails L R
-ends-in-sound d = derivable-sound (ends-in-iff .0 d)
+ends-in-sound d = derivable-sound d

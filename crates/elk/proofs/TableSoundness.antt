@@ -8,7 +8,7 @@ use Rattle.equilibrium.specs.Meaning.{Holds, AllHold, NoneHolds, SomeHolds, Ent
 use Rattle.equilibrium.proofs.Satisfaction.{persists, holds?}
 use Rattle.elk.specs.Rules.{Rule, def, same, andl, andr, wr, bot, orr, orl, notl, impr, impl, notr, rcut, unst, xini, xnnl, xnnr, xandl}
 use Rattle.elk.specs.Rules.{xandr1, xandr2, xorr, xorl1, xorl2, ximpl1, ximpl2, ximpl3, ximpr1, ximpr2, xnimpl, xnimpr1, xnimpr2, xnandl1}
-use Rattle.elk.specs.Rules.{xnandl2, xnandr, xnorl, xnorr1, xnorr2, Fits, is-any, is-falsity, is-negation, is-conjunction, is-disjunction}
+use Rattle.elk.specs.Rules.{xnandl2, xnandr, xnorl, xnorr1, xnorr2, swap, Fits, is-any, is-falsity, is-negation, is-conjunction, is-disjunction}
 use Rattle.elk.specs.Rules.{is-implication, is-double-negation, is-negated-conjunction, is-negated-disjunction, is-negated-implication, entry}
 use Rattle.elk.proofs.Steps.{formOf, Keeps}
 use Rattle.elk.proofs.Validity.{Refutable, Valid, carry, all-cons, all-head, all-tail, none-cons}
@@ -119,3 +119,4 @@ table-sound xnorr1 is-negated-disjunction L R = λ v. let r = v .0 in
     by-pair r (r .left) (none-cons (λ n. none-head (r .right) (λ a. n (inl a))) (none-tail (r .right)))
 table-sound xnorr2 is-negated-disjunction L R = λ v. let r = v .0 in
     by-pair r (r .left) (none-cons (λ n. none-head (r .right) (λ b. n (inr b))) (none-tail (r .right)))
+table-sound swap f L R = tt

@@ -1,14 +1,15 @@
 -- When a row is an instance of a rule, with a principal formula (or none) and its premises. L, R, Q and S are arbitrary
 -- finite sets; they may hold the principal formula and its parts, and are the same throughout one rule.
-use Prim.Native.Nat.{ℕ, _<_}
+use Prim.Native.Nat.{ℕ, _≤_, _<_}
 use mathlib.Core.Path.{_≡_}
 use mathlib.Core.Bool.{Bool, true, false}
 use mathlib.Core.List.{List, [], _∷_, _++_, map}
 use mathlib.Core.Option.{Option, none, some}
-use Rattle.equilibrium.specs.Formula.{Formula, falsum, atom, neg, conj, disj, atomsIn}
-use Rattle.equilibrium.specs.Meaning.{_∈_, _≈_}
+use lib.ListN.{length}
+use Rattle.equilibrium.specs.Formula.{Formula, falsum, atom, neg, conj, disj, atomsOf, atomsIn}
+use Rattle.equilibrium.specs.Meaning.{_∈_, _⊆_, _≈_, Equal}
 use Rattle.elk.specs.Sequent.{Kind, Sequent, _⇒_, _⨾_, Same, AllSame}
-use Rattle.elk.specs.Rules.{Rule, Fits, Part, P, A, B, ~A, ~B, Added, Schema, Entry, schema, default, cut, unstable, initial, entry}
+use Rattle.elk.specs.Rules.{Rule, Fits, Part, P, A, B, ~A, ~B, Added, Schema, Entry, schema, default, cut, unstable, initial, exchange, entry}
 
 -- a part, where the principal formula is F and its parts are G and H
 abbrev pub meant : Formula → Formula → Formula → Part → Formula
@@ -128,6 +129,39 @@ pub record InitialInstance (premises : List Sequent) (conclusion : Sequent) : Ty
   pub above : AllSame premises []
   pub below : Same conclusion (L ⨾ R)
 
+-- the atoms of a list are at most n: they lie among n
+abbrev pub AtMost : ℕ → List ℕ → Type 0
+AtMost n ps = (qs : List ℕ) × (length qs ≤ n) × (ps ⊆ qs)
+
+-- the most atoms that A and B of `swap` have together
+abbrev pub mostSwapped : ℕ
+mostSwapped = 8
+
+-- two formulas have no more
+abbrev pub Narrow : Formula → Formula → Type 0
+Narrow F G = AtMost mostSwapped (atomsOf F ++ atomsOf G)
+
+-- G leaves the sides right: some L and R have L,G => R as the premise and L,F => R as the row
+pub record Exchanged (F G : Formula) (premises : List Sequent) (conclusion : Sequent) : Type 0 where
+  pub L : List Formula
+  pub R : List Formula
+  pub above : AllSame premises ((G ∷ L ⇒ R) ∷ [])
+  pub below : Same conclusion (F ∷ L ⇒ R)
+
+-- swap: L,B => R gives L,A => R, where A and B hold in the same interpretations and have at most 8 atoms together
+pub record SwapInstance (F : Formula) (premises : List Sequent) (conclusion : Sequent) : Type 0 where
+  pub other : Formula
+  pub sides : Exchanged F other premises conclusion
+  pub narrow : Narrow F other
+  pub equal : Equal F other
+
+-- number 18: no B with at most 8 atoms fits, and some B that leaves the sides right has more
+pub record TooWide (F : Formula) (premises : List Sequent) (conclusion : Sequent) : Type 0 where
+  pub none-fits : SwapInstance F premises conclusion → ⊥
+  pub other : Formula
+  pub sides : Exchanged F other premises conclusion
+  pub wide : Narrow F other → ⊥
+
 abbrev pub InstanceOf : Entry → Option Formula → List Sequent → Sequent → Type 0
 InstanceOf (schema t) (some F) premises conclusion = SchemaInstance t F premises conclusion
 InstanceOf (schema t) none premises conclusion = ⊥
@@ -139,7 +173,22 @@ InstanceOf unstable (some F) premises conclusion = ⊥
 InstanceOf unstable none premises conclusion = UnstableInstance premises conclusion
 InstanceOf initial (some F) premises conclusion = ⊥
 InstanceOf initial none premises conclusion = InitialInstance premises conclusion
+InstanceOf exchange (some F) premises conclusion = SwapInstance F premises conclusion
+InstanceOf exchange none premises conclusion = ⊥
 
 -- the sequent follows from the premises by the rule, with that principal formula or none
 abbrev pub Instance : Rule → Option Formula → List Sequent → Sequent → Type 0
 Instance r F premises conclusion = InstanceOf (entry r) F premises conclusion
+
+abbrev pub TooManyAtomsOf : Entry → Option Formula → List Sequent → Sequent → Type 0
+TooManyAtomsOf (schema t) F premises conclusion = ⊥
+TooManyAtomsOf default F premises conclusion = ⊥
+TooManyAtomsOf cut F premises conclusion = ⊥
+TooManyAtomsOf unstable F premises conclusion = ⊥
+TooManyAtomsOf initial F premises conclusion = ⊥
+TooManyAtomsOf exchange (some F) premises conclusion = TooWide F premises conclusion
+TooManyAtomsOf exchange none premises conclusion = ⊥
+
+-- what number 18 says of a row; of no rule but `swap` can it be said
+abbrev pub TooManyAtoms : Rule → Option Formula → List Sequent → Sequent → Type 0
+TooManyAtoms r F premises conclusion = TooManyAtomsOf (entry r) F premises conclusion

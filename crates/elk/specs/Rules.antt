@@ -1,9 +1,10 @@
--- The 37 rules of paper 01 ("Rows of ELK", "Rows of refutation"), in its order and under its words. All but four add
--- formulas to one L and one R: these are lines of a table. `def`, `rcut`, `unst` and `xini` are written out in Instance.
+-- The 37 rules of paper 01 ("Rows of ELK", "Rows of refutation"), in its order and under its words, and `swap` of paper
+-- 02 (M-104). All but five add formulas to one L and one R: these are lines of a table. `def`, `rcut`, `unst`, `xini` and
+-- `swap` are written out in Instance.
 use Prim.Native.Nat.{ℕ}
 use Prim.Native.String.{String}
 use mathlib.Core.Bool.{Bool, true, false}
-use mathlib.Core.List.{List, [], _∷_, map}
+use mathlib.Core.List.{List, [], _∷_, _++_, map}
 use Rattle.equilibrium.specs.Formula.{Formula, falsum, neg, conj, disj, imp}
 use Rattle.elk.specs.Sequent.{Kind, elk, refutation}
 
@@ -11,6 +12,7 @@ pub data Rule : Type 0 where
   def same andl andr wr bot orr orl notl impr impl notr rcut unst : Rule
   xini xnnl xnnr xandl xandr1 xandr2 xorr xorl1 xorl2 ximpl1 ximpl2 ximpl3 ximpr1 ximpr2 : Rule
   xnimpl xnimpr1 xnimpr2 xnandl1 xnandl2 xnandr xnorl xnorr1 xnorr2 : Rule
+  swap : Rule
 
 -- What a rule asks of its principal formula, and names A and B: `A` itself, `#`, `~A`, `A&B`, `A|B`, `A->B`, `~~A`,
 -- `~(A&B)`, `~(A|B)`, `~(A->B)`. Where there is one part, it is both A and B.
@@ -49,7 +51,7 @@ pub record Schema : Type 0 where
 
 pub data Entry : Type 0 where
   schema : Schema → Entry
-  default cut unstable initial : Entry
+  default cut unstable initial exchange : Entry
 
 infix 70 _⊢_
 abbrev pub _⊢_ : List Part → List Part → Added
@@ -110,6 +112,7 @@ entry xnandr = refute negated-conjunction (∅ ⊢ ⟨ P ⟩) (∅ ⊢ ⟨ ~A �
 entry xnorl = refute negated-disjunction (⟨ P ⟩ ⊢ ∅) (⟨ ~A ⁏ ~B ⟩ ⊢ ∅)
 entry xnorr1 = refute negated-disjunction (∅ ⊢ ⟨ P ⟩) (∅ ⊢ ⟨ ~A ⟩)
 entry xnorr2 = refute negated-disjunction (∅ ⊢ ⟨ P ⟩) (∅ ⊢ ⟨ ~B ⟩)
+entry swap = exchange
 
 -- the calculus that a rule's conclusion belongs to
 abbrev pub kindOf : Entry → Kind
@@ -118,6 +121,7 @@ kindOf default = elk
 kindOf cut = elk
 kindOf unstable = elk
 kindOf initial = refutation
+kindOf exchange = elk
 
 -- whether a rule names a principal formula
 abbrev pub hasPrincipal : Entry → Bool
@@ -126,6 +130,7 @@ hasPrincipal default = true
 hasPrincipal cut = true
 hasPrincipal unstable = false
 hasPrincipal initial = false
+hasPrincipal exchange = true
 
 -- the kinds of a rule's premises, in their order
 abbrev pub premiseKinds : Entry → List Kind
@@ -134,13 +139,18 @@ premiseKinds default = []
 premiseKinds cut = elk ∷ elk ∷ []
 premiseKinds unstable = elk ∷ refutation ∷ []
 premiseKinds initial = []
+premiseKinds exchange = elk ∷ []
 
--- the rules in 01's order; a rule's code is its place less one
-abbrev pub rules : List Rule
-rules =
+-- the rules of 01 in its order
+abbrev pub first-rules : List Rule
+first-rules =
     def ∷ same ∷ andl ∷ andr ∷ wr ∷ bot ∷ orr ∷ orl ∷ notl ∷ impr ∷ impl ∷ notr ∷ rcut ∷ unst
     ∷ xini ∷ xnnl ∷ xnnr ∷ xandl ∷ xandr1 ∷ xandr2 ∷ xorr ∷ xorl1 ∷ xorl2 ∷ ximpl1 ∷ ximpl2 ∷ ximpl3 ∷ ximpr1 ∷ ximpr2
     ∷ xnimpl ∷ xnimpr1 ∷ xnimpr2 ∷ xnandl1 ∷ xnandl2 ∷ xnandr ∷ xnorl ∷ xnorr1 ∷ xnorr2 ∷ []
+
+-- all rules, later ones at the end; a rule's code is its place less one
+abbrev pub rules : List Rule
+rules = first-rules ++ swap ∷ []
 
 abbrev pub codeOf : Rule → ℕ
 codeOf def = 0
@@ -180,6 +190,7 @@ codeOf xnandr = 33
 codeOf xnorl = 34
 codeOf xnorr1 = 35
 codeOf xnorr2 = 36
+codeOf swap = 37
 
 -- the word of a rule in a text
 abbrev pub wordOf : Rule → String
@@ -220,3 +231,4 @@ wordOf xnandr = "xnandr"
 wordOf xnorl = "xnorl"
 wordOf xnorr1 = "xnorr1"
 wordOf xnorr2 = "xnorr2"
+wordOf swap = "swap"

@@ -1,5 +1,6 @@
--- The laws of sets, satisfaction, equilibrium models and entailment.
+-- The laws of sets, satisfaction, equal formulas, equilibrium models and entailment.
 pub mod Sets
 pub mod Satisfaction
+pub mod EqualFormulas
 pub mod Models
 pub mod Examples

@@ -1,7 +1,10 @@
--- Finite sets as lists read by membership: laws, decisions, and the search through all parts of a set.
+-- Finite sets as lists read by membership: laws, decisions, their size, and the search through all parts of a set.
+use Prim.Native.Nat.{_≤_, _<_}
+use native.Mathlib.Omega.{arith}
 use mathlib.Core.Path.{_≡_, refl, sym, subst}
 use mathlib.Core.List.{List, [], _∷_, List·Memᴰ·head, List·Memᴰ·tail, List·Memᴰ·cases-cons, List·Memᴰ·not-nil}
 use mathlib.Core.Logic.{_⊎_, inl, inr, ⊎-elim, _↔_}
+use lib.ListN.{length}
 use Rattle.equilibrium.specs.Meaning.{_∈_, _⊆_, _≈_}
 
 -- where the decision says yes
@@ -61,6 +64,13 @@ module _ {X : Type 0} where
   pub ≈-trans : {xs ys zs : List X} → xs ≈ ys → ys ≈ zs → xs ≈ zs
   ≈-trans e f = (λ x m. f .0 x (e .0 x m), λ x m. e .1 x (f .1 x m))
 
+  -- one member more in both
+  pub ≈-cons : {u : X} {xs ys : List X} → xs ≈ ys → (u ∷ xs) ≈ (u ∷ ys)
+  ≈-cons e = (
+    λ y m. ⊎-elim List·Memᴰ·head (λ k. List·Memᴰ·tail (e .0 y k)) (List·Memᴰ·cases-cons m),
+    λ y m. ⊎-elim List·Memᴰ·head (λ k. List·Memᴰ·tail (e .1 y k)) (List·Memᴰ·cases-cons m),
+  )
+
   -- a property of every member: of the first, and of every member of the rest
   unfoldable pub dec-all : {P : X → Type 0} → ((x : X) → Dec (P x)) → (xs : List X) → Dec ((x : X) → x ∈ xs → P x)
   dec-all d [] = yes (λ x m. absurd (List·Memᴰ·not-nil m))
@@ -107,6 +117,33 @@ module _ {X : Type 0} where
         λ g. ⊎-elim (λ (e : y ≡ x). absurd (n (subst P e (g .1)))) (λ k. ih .1 (k, g .1)) (List·Memᴰ·cases-cons (g .0)),
       )
 
+  pub those-length : {P : X → Type 0} (d : (x : X) → Dec (P x)) (xs : List X) → length (those d xs) ≤ length xs
+  unfolding those
+  those-length d [] = omega arith
+  those-length {P} d (x ∷ xs) = step (d x) (those-length d xs)
+    where
+      step : (e : Dec (P x)) → length (those d xs) ≤ length xs → length (put-if e x (those d xs)) ≤ length (x ∷ xs)
+      step (yes h) l = omega arith
+      step (no n) l = omega arith
+
+  -- one member at least is left out
+  pub those-shorter : {P : X → Type 0} (d : (x : X) → Dec (P x)) (xs : List X) {x : X}
+      → x ∈ xs → (P x → ⊥) → length (those d xs) < length xs
+  unfolding those
+  those-shorter d [] m n = absurd (List·Memᴰ·not-nil m)
+  those-shorter {P} d (y ∷ ys) {x} m n = step (d y) (λ k. those-shorter d ys k n) (List·Memᴰ·cases-cons m)
+    where
+      step : (e : Dec (P y)) → (x ∈ ys → length (those d ys) < length ys) → (x ≡ y) ⊎ (x ∈ ys)
+          → length (put-if e y (those d ys)) < length (y ∷ ys)
+      step (yes h) rest (inl e) = absurd (n (subst P (sym e) h))
+      step (yes h) rest (inr k) = let l = rest k in omega arith
+      step (no k) rest j = let l = those-length d ys in omega arith
+
+  -- no member is listed twice
+  abbrev pub Unrepeated : List X → Type 0
+  Unrepeated [] = Unit {0}
+  Unrepeated (x ∷ xs) = (x ∈ xs → ⊥) × Unrepeated xs
+
 -- sets of things that can be told apart
 module _ {X : Type 0} (_≟_ : Discrete X) where
   unfoldable pub dec-in : (x : X) (xs : List X) → Dec (x ∈ xs)
@@ -126,6 +163,43 @@ module _ {X : Type 0} (_≟_ : Discrete X) where
   unfolding dec-part dec-and
   dec-same xs ys = dec-and (dec-part xs ys) (dec-part ys xs)
 
+  -- each member once, at the last of its places
+  unfoldable pub once : List X → List X
+  unfolding dec-not dec-in
+  once [] = []
+  once (x ∷ xs) = put-if (dec-not (dec-in x xs)) x (once xs)
+
+  pub once-same : (xs : List X) → once xs ≈ xs
+  unfolding once
+  once-same [] = ≈-refl
+  once-same (x ∷ xs) = step (dec-in x xs) (once-same xs)
+    where
+      step : (d : Dec (x ∈ xs)) → once xs ≈ xs → put-if (dec-not d) x (once xs) ≈ (x ∷ xs)
+      step (yes m) e = (
+        λ y k. List·Memᴰ·tail (e .0 y k),
+        λ y k. ⊎-elim (λ (q : y ≡ x). e .1 y (subst (λ (z : X). z ∈ xs) (sym q) m)) (e .1 y) (List·Memᴰ·cases-cons k),
+      )
+      step (no n) e = ≈-cons e
+
+  pub once-unrepeated : (xs : List X) → Unrepeated (once xs)
+  unfolding once
+  once-unrepeated [] = tt
+  once-unrepeated (x ∷ xs) = step (dec-in x xs) (once-unrepeated xs)
+    where
+      step : (d : Dec (x ∈ xs)) → Unrepeated (once xs) → Unrepeated (put-if (dec-not d) x (once xs))
+      step (yes m) u = u
+      step (no n) u = (λ k. n (once-same xs .0 x k), u)
+
+  -- a list without repetition is no longer than one that holds all its members
+  pub unrepeated-length : (xs ys : List X) → Unrepeated xs → xs ⊆ ys → length xs ≤ length ys
+  unrepeated-length [] ys u s = omega arith
+  unrepeated-length (x ∷ xs) ys u s =
+      let other? : (y : X) → Dec (y ≡ x → ⊥) = λ y. dec-not (_≟_ y x) in
+      let shorter = those-shorter other? ys (s x (List·Memᴰ·head refl)) (λ n. n refl) in
+      let within : xs ⊆ those other? ys = λ y m. in-those _ ys y .1 (s y (List·Memᴰ·tail m), λ e. u .0 (subst (λ (z : X). z ∈ xs) e m)) in
+      let fits = unrepeated-length xs (those other? ys) (u .1) within in
+      omega arith
+
   -- a set with one of its members taken out and put in front
   pub split-off : (x : X) (xs : List X) → x ∈ xs → xs ≈ (x ∷ those (λ y. dec-not (_≟_ y x)) xs)
   split-off x xs m =
@@ -144,14 +218,8 @@ module _ {X : Type 0} (_≟_ : Discrete X) where
       step (yes h) = yes ([], (λ x m. m), h)
       step (no n) = no (λ s. n (same (s .0) [] (s .1, λ x m. absurd (List·Memᴰ·not-nil m)) (s .2)))
   search-parts (u ∷ U) P d same =
-      step (search-parts U P d same) (search-parts U (λ xs. P (u ∷ xs)) (λ xs. d (u ∷ xs)) (λ xs ys e. same (u ∷ xs) (u ∷ ys) (put e)))
+      step (search-parts U P d same) (search-parts U (λ xs. P (u ∷ xs)) (λ xs. d (u ∷ xs)) (λ xs ys e. same (u ∷ xs) (u ∷ ys) (≈-cons e)))
     where
-      put : {xs ys : List X} → xs ≈ ys → (u ∷ xs) ≈ (u ∷ ys)
-      put e = (
-        λ y m. ⊎-elim (λ k. List·Memᴰ·head k) (λ k. List·Memᴰ·tail (e .0 y k)) (List·Memᴰ·cases-cons m),
-        λ y m. ⊎-elim (λ k. List·Memᴰ·head k) (λ k. List·Memᴰ·tail (e .1 y k)) (List·Memᴰ·cases-cons m),
-      )
-
       narrow : (xs : List X) → xs ⊆ u ∷ U → (u ∈ xs → ⊥) → xs ⊆ U
       narrow xs s n y m = ⊎-elim (λ (e : y ≡ u). absurd (n (subst (λ (z : X). z ∈ xs) e m))) (λ k. k) (List·Memᴰ·cases-cons (s y m))
 

@@ -10,7 +10,7 @@ use Rattle.equilibrium.specs.Meaning.{_∈_, _≈_, Fails}
 use Rattle.equilibrium.proofs.Sets.{≈-refl}
 use Rattle.equilibrium.proofs.Models.{entails-not-fails}
 use Rattle.elk.specs.Sequent.{Kind, elk, refutation}
-use Rattle.elk.specs.Rules.{entry, kindOf}
+use Rattle.elk.specs.Rules.{entry, kindOf, rules}
 use Rattle.elk.specs.Derivation.{Derivation, EndsIn}
 use Rattle.elk.proofs.Soundness.{ends-in-sound}
 use Rattle.format.specs.Text.{Bytes, linesOf, sameList}
@@ -95,7 +95,7 @@ accepted-derives {text} a =
     record {
       last = sequentOf nodes (l .last);
       earlier = derived nodes (l .before);
-      derivation = subst Derivation (ap (derived nodes) (l .split) ∙ derived-snoc nodes (l .before) (l .last)) (good-derivation (g .body));
+      derivation = subst (Derivation rules) (ap (derived nodes) (l .split) ∙ derived-snoc nodes (l .before) (l .last)) (good-derivation (g .body));
       ends = record { kind = l .kind; left = decoded-same (l .left-side); right = decoded-same (l .right-side) };
     }
   where

@@ -39,6 +39,10 @@ pub yes-iff : {X : Type 0} (d : Dec X) → (not (isNo d) ≡ false) ↔ (X → �
 yes-iff (yes x) = (λ e. absurd (true≢false e), λ n. absurd (n x))
 yes-iff (no n) = (λ e. n, λ k. refl)
 
+pub shown-iff : {X : Type 0} (d : Dec X) → (not (isNo d) ≡ true) ↔ X
+shown-iff (yes x) = (λ e. x, λ x. refl)
+shown-iff (no n) = (λ e. absurd (false≢true e), λ x. absurd (n x))
+
 module _ {X : Type 0} (test : X → Bool) where
   pub any-false : (xs : List X) → any test xs ≡ false → (x : X) → x ∈ xs → test x ≡ false
   any-false [] e x m = absurd (List·Memᴰ·not-nil m)

@@ -1,5 +1,5 @@
--- Paper 01's examples of texts ("A whole file"), texts with an M line and texts with runs, each with its answer, by one computed proof
--- over the table. And a text with its sets written in two ways.
+-- Paper 01's examples of texts ("A whole file"), texts with an M line, with runs and with `swap`, each with its answer, by one
+-- computed proof over the table. And a text with its sets written in two ways.
 use Prim.Native.Nat.{ℕ}
 use mathlib.Core.Path.{_≡_, refl}
 use mathlib.Core.Bool.{true}
@@ -10,13 +10,13 @@ use native.Mathlib.Omega.{arith}
 use native.Mathlib.Decide.{ℕ-discrete}
 use Rattle.equilibrium.proofs.Sets.{≈-refl}
 use Rattle.equilibrium.proofs.Models.{equilibrium?}
-use Rattle.elk.proofs.Decision.{instance?}
+use Rattle.elk.proofs.Decision.{instance?, too-many-atoms?}
 use Rattle.format.specs.Text.{Bytes, bytes, partsAt, linesOf, fieldsOf, sameList, numberOf, listOf, itemOf, itemsOf, upFrom, sideOf}
 use Rattle.format.specs.Text.{principalOf, isName, strictlyRising}
 use Rattle.format.specs.Line.{ruleOf, nodeOf, atomFields, formulaFields, rowFields, modelFields, claimFields, lineOf}
 use Rattle.format.specs.File.{formulas}
 use Rattle.format.specs.Tables.{Lent, tooShort}
-use Rattle.format.specs.Tests.{wrongPremises, wrongStep}
+use Rattle.format.specs.Tests.{wrongPremises, tooManyAtoms, wrongStep}
 use Rattle.format.specs.Model.{contradiction?}
 use Rattle.format.specs.Judged.{Ruling, accepted, turnedDown, judged, contents, beginning, run, step, stepRead}
 use Rattle.format.specs.Same.{SideRewritten, LineRewritten, kept, row, model, claim, Rewritten}
@@ -96,6 +96,19 @@ long = pair ++ bytes "N\t0\tsame\t0\t-\t0,1\t0,1,2\nM\t0,1\nC\t0,1\t0,1,2\n"
 abbrev short : Bytes
 short = pair ++ bytes "N\t0\tsame\t0\t-\t0-1\t0-2\nM\t0-1\nC\t0,1\t0,1-2\n"
 
+-- p&q and q&p, and a derivation of q&p => q&p
+abbrev turned : Bytes
+turned = bytes "A\t0\tp\nA\t1\tq\nF\t0\tatom\t0\t-\nF\t1\tatom\t1\t-\nF\t2\tand\t0\t1\nF\t3\tand\t1\t0\nN\t0\tsame\t3\t-\t3\t3\n"
+
+-- nine atoms; formula 15 joins eight of them, and 16 all
+abbrev nineAtoms : Bytes
+nineAtoms =
+    bytes "A\t0\tp0\nA\t1\tp1\nA\t2\tp2\nA\t3\tp3\nA\t4\tp4\nA\t5\tp5\nA\t6\tp6\nA\t7\tp7\nA\t8\tp8\n"
+    ++ bytes "F\t0\tatom\t0\t-\nF\t1\tatom\t1\t-\nF\t2\tatom\t2\t-\nF\t3\tatom\t3\t-\nF\t4\tatom\t4\t-\n"
+    ++ bytes "F\t5\tatom\t5\t-\nF\t6\tatom\t6\t-\nF\t7\tatom\t7\t-\nF\t8\tatom\t8\t-\n"
+    ++ bytes "F\t9\tand\t0\t1\nF\t10\tand\t2\t9\nF\t11\tand\t3\t10\nF\t12\tand\t4\t11\n"
+    ++ bytes "F\t13\tand\t5\t12\nF\t14\tand\t6\t13\nF\t15\tand\t7\t14\nF\t16\tand\t8\t15\n"
+
 abbrev pub examples : List Example
 examples =
     -- the whole file
@@ -170,12 +183,25 @@ examples =
     -- 16,385 entries pass the pool before 7 is asked, 16,384 do not
     ∷ (bytes "N\t0\tsame\t0\t-\t0-16384\t0\n" earns turnedDown 5 1)
     ∷ (bytes "N\t0\tsame\t0\t-\t0-16383\t0\n" earns turnedDown 7 1)
+    -- p&q swapped for q&p; an ELK row, so that the claim may be its sides
+    ∷ (turned ++ bytes "N\t1\tswap\t2\t0\t2\t3\nM\t0,1\nC\t2\t3\n" earns accepted 10)
+    -- p for q&p earns 11, p for ~~p too
+    ∷ (turned ++ bytes "N\t1\tswap\t0\t0\t0\t3\n" earns turnedDown 11 8)
+    ∷ (bytes "A\t0\tp\nF\t0\tatom\t0\t-\nF\t1\tnot\t0\t-\nF\t2\tnot\t1\t-\nN\t0\tsame\t2\t-\t2\t2\nN\t1\tswap\t0\t0\t0\t2\n"
+    earns turnedDown 11 6)
+    -- eight atoms fit, nine earn 18, equal formulas or not
+    ∷ (nineAtoms ++ bytes "N\t0\tsame\t15\t-\t15\t15\nN\t1\tswap\t15\t0\t15\t15\n" earns turnedDown 13 29)
+    ∷ (nineAtoms ++ bytes "N\t0\tsame\t16\t-\t16\t16\nN\t1\tswap\t16\t0\t16\t16\n" earns turnedDown 18 28)
+    ∷ (nineAtoms ++ bytes "N\t0\tsame\t16\t-\t16\t16\nN\t1\tswap\t0\t0\t0\t16\n" earns turnedDown 18 28)
+    -- without its premise the row earns 10, with another right side 11
+    ∷ (nineAtoms ++ bytes "N\t0\tsame\t16\t-\t16\t16\nN\t1\tswap\t16\t-\t16\t16\n" earns turnedDown 10 28)
+    ∷ (nineAtoms ++ bytes "N\t0\tsame\t16\t-\t16\t16\nN\t1\tswap\t16\t0\t16\t15,16\n" earns turnedDown 11 28)
     ∷ []
 
 pub examples-hold : map (λ e. judged full (e .text)) examples ≡ map (λ e. e .answer) examples
 unfolding judged beginning run step stepRead lineOf atomFields formulaFields rowFields modelFields claimFields ruleOf nodeOf
     linesOf fieldsOf partsAt sameList numberOf listOf itemOf itemsOf upFrom sideOf principalOf isName strictlyRising formulas
-    tooShort wrongPremises wrongStep instance? contradiction? equilibrium? ℕ-discrete
+    tooShort wrongPremises tooManyAtoms too-many-atoms? wrongStep instance? contradiction? equilibrium? ℕ-discrete
 examples-hold = refl
 
 -- the text with runs is the other one, with its sets written in another way

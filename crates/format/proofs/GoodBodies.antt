@@ -30,7 +30,9 @@ use lib.ListN.{length, getD, take, length-append, List·getD-append}
 use lib.Seq.{take-append-le, take-at, getD-at}
 use borrow.Author.Tests.{leb-false}
 use Rattle.equilibrium.specs.Meaning.{_∈_, _⊆_}
+use Rattle.elk.specs.Rules.{rules}
 use Rattle.elk.specs.Derivation.{Derivation, start, row}
+use Rattle.elk.proofs.RuleCodes.{every-rule}
 use Rattle.format.specs.Text.{any}
 use Rattle.format.specs.File.{Node, Row, Body, addNode, addRow, sequentOf}
 use Rattle.format.specs.Tables.{nodeRecord, joinAll, leftPool, rightPool, mostAtoms, mostFormulas, mostRows, mostEntries}
@@ -227,10 +229,10 @@ premises-derived b r known s m =
         ⊎-elim (λ e. in-reverse _ [] (Memᴰ·cast e there)) (λ j. among is (λ x l. h x (List·Memᴰ·tail l)) j) (List·Memᴰ·cases-cons k)
 
 -- the rows of a good body, decoded, are a derivation
-pub good-derivation : {b : Body} → GoodBody b → Derivation (derived (b .nodes) (b .rows))
+pub good-derivation : {b : Body} → GoodBody b → Derivation rules (derived (b .nodes) (b .rows))
 good-derivation (atoms n h) = start
-good-derivation (formula {b} g rows node ok) = subst (λ (rs : List Row). Derivation (derived (b .nodes ++ node ∷ []) rs)) (sym rows) start
+good-derivation (formula {b} g rows node ok) = subst (λ (rs : List Row). Derivation rules (derived (b .nodes ++ node ∷ []) rs)) (sym rows) start
 good-derivation (GoodBody.row {b} g r ok) =
     let premises = premises-derived b r (passed-row b r ok .premises-earlier) in
-    subst Derivation (sym (derived-snoc (b .nodes) (b .rows) r)) (
-    row (good-derivation g) (r .rule) _ (premisesOf b r) premises (instance-of b r (passes 11 (bodyTests b r) ok)))
+    subst (Derivation rules) (sym (derived-snoc (b .nodes) (b .rows) r)) (
+    row (good-derivation g) (r .rule) (every-rule (r .rule)) _ (premisesOf b r) premises (instance-of b r (passes 11 (bodyTests b r) ok)))

@@ -3,7 +3,7 @@ use mathlib.Core.List.{List, [], _∷_}
 use mathlib.Core.Option.{Option, none, some}
 use Rattle.equilibrium.specs.Formula.{Formula}
 use Rattle.elk.specs.Sequent.{Sequent, Same, AllSame}
-use Rattle.elk.specs.Rules.{Entry, schema, default, cut, unstable, initial}
+use Rattle.elk.specs.Rules.{Entry, schema, default, cut, unstable, initial, exchange}
 use Rattle.elk.specs.Instance.{InstanceOf}
 use Rattle.elk.proofs.Steps.{same-trans}
 
@@ -67,3 +67,12 @@ instance-same initial none ps qs a b i =
       above = all-same-trans qs ps _ a (i .above);
       below = same-trans b (i .below);
     }
+instance-same exchange (some F) ps qs a b i =
+    let e = i .sides in
+    record {
+      other = i .other;
+      sides = record { L = e .L; R = e .R; above = all-same-trans qs ps _ a (e .above); below = same-trans b (e .below) };
+      narrow = i .narrow;
+      equal = i .equal;
+    }
+instance-same exchange none ps qs a b i = absurd i

@@ -16,12 +16,12 @@ use Rattle.equilibrium.specs.Meaning.{_∈_, _⊆_, _≈_, Entails}
 use Rattle.equilibrium.proofs.Sets.{≈-sym, dec-in}
 use Rattle.equilibrium.proofs.Models.{only-occurring}
 use Rattle.elk.specs.Sequent.{elk, Sequent, _⇒_, Same, AllSame}
-use Rattle.elk.specs.Rules.{Rule, entry, kindOf}
+use Rattle.elk.specs.Rules.{Rule, entry, kindOf, rules}
 use Rattle.elk.specs.Instance.{Instance}
 use Rattle.elk.specs.Derivation.{Derivation, start, row, EndsIn}
 use Rattle.elk.proofs.Steps.{same-trans}
 use Rattle.elk.proofs.Entries.{atoms-part}
-use Rattle.elk.proofs.Completeness.{complete}
+use Rattle.elk.proofs.Main.{derivable-iff-entailed}
 use Rattle.elk.proofs.Faithful.{instance-shaped}
 use Rattle.elk.proofs.Equality.{formula-discrete}
 use Rattle.format.specs.Text.{Bytes, _<$>_, any, strictlyRising}
@@ -213,17 +213,17 @@ module _ (atoms : ℕ) (nodes : List Node) (As : List Formula) (number : (A : Fo
     passing : Within (body atoms nodes (before ++ q ∷ [])) → first (bodyTests (body atoms nodes before) q) ≡ none
     passing w = row-enough (body atoms nodes before) q (passed w) is-instance
 
-  record RowsFor {ss : List Sequent} (d : Derivation ss) : Type 0 where
+  record RowsFor {ss : List Sequent} (d : Derivation rules ss) : Type 0 where
     rows : List Row
     steps : AreSteps atoms nodes rows d
     found : (s : Sequent) → s ∈ ss → Found nodes rows s
     rising : (r : Row) → r ∈ rows → SidesRise r
     good : GoodBody (body atoms nodes []) → Within (body atoms nodes rows) → GoodBody (body atoms nodes rows)
 
-  rows-for : {ss : List Sequent} (d : Derivation ss) → formulasIn d ⊆ As → RowsFor d
+  rows-for : {ss : List Sequent} (d : Derivation rules ss) → formulasIn d ⊆ As → RowsFor d
   rows-for start h =
       record { rows = []; steps = refl; found = λ s m. absurd (List·Memᴰ·not-nil m); rising = λ r m. absurd (List·Memᴰ·not-nil m); good = λ g w. g }
-  rows-for (row {rows = ss} d r F premises {s = s} inside i) h =
+  rows-for (row {rows = ss} d r u F premises {s = s} inside i) h =
       add (rows-for d (λ A m. h A (past (Memᴰ·append-right (s .left) (Memᴰ·append-right (s .right) m)))))
     where
       past : {A : Formula} {Bs : List Formula} → A ∈ Bs → A ∈ principals F ++ Bs
@@ -238,7 +238,7 @@ module _ (atoms : ℕ) (nodes : List Node) (As : List Formula) (number : (A : Fo
       right : s .right ⊆ As
       right A m = h A (past (Memᴰ·append-right (s .left) (Memᴰ·append-left _ m)))
 
-      add : RowsFor d → RowsFor (row d r F premises inside i)
+      add : RowsFor d → RowsFor (row d r u F premises inside i)
       add rest =
           record {
             rows = before ++ next ∷ [];
@@ -269,7 +269,7 @@ module _ (atoms : ℕ) (nodes : List Node) (As : List Formula) (number : (A : Fo
 -- ---- the theorems
 
 -- every derivation whose atoms are below a number has formulas and rows
-pub transcribed : (atoms : ℕ) {ss : List Sequent} (d : Derivation ss) → ((p : ℕ) → p ∈ atomsIn (formulasIn d) → p < atoms) → Transcript atoms d
+pub transcribed : (atoms : ℕ) {ss : List Sequent} (d : Derivation rules ss) → ((p : ℕ) → p ∈ atomsIn (formulasIn d) → p < atoms) → Transcript atoms d
 transcribed atoms d below =
     record {
       nodes = ns .nodes;
@@ -287,9 +287,9 @@ transcribed atoms d below =
     rs : RowsFor atoms (ns .nodes) (formulasIn d) (ns .number) d
     rs = rows-for atoms (ns .nodes) (formulasIn d) (ns .number) d (λ A m. m)
 
-last-step : (atoms : ℕ) (nodes : List Node) (rows : List Row) {s : Sequent} {ss : List Sequent} (d : Derivation (s ∷ ss)) → AreSteps atoms nodes rows d
-    → (before : List Row) × (q : Row) × (rows ≡ before ++ q ∷ []) × Same (sequentOf nodes q) s
-last-step atoms nodes rows (row d r F premises inside i) steps = (steps .0, steps .1, steps .2, steps .4 .sequent)
+last-step : (atoms : ℕ) (nodes : List Node) (qs : List Row) {s : Sequent} {ss : List Sequent} (d : Derivation rules (s ∷ ss)) → AreSteps atoms nodes qs d
+    → (before : List Row) × (q : Row) × (qs ≡ before ++ q ∷ []) × Same (sequentOf nodes q) s
+last-step atoms nodes qs (row d r u F premises inside i) steps = (steps .0, steps .1, steps .2, steps .4 .sequent)
 
 -- the last row of a transcript of a derivation of L => R is L => R
 pub transcript-ends : {atoms : ℕ} {L R : List Formula} (e : EndsIn L R) (t : Transcript atoms (e .derivation))
@@ -307,8 +307,8 @@ last-is rows before q split e = rw split (ends before)
     ends (r ∷ p ∷ ps) = ends (p ∷ ps)
 
 -- the left side of a derivation's last row is among the formulas that it names
-left-named : {s : Sequent} {ss : List Sequent} (d : Derivation (s ∷ ss)) → s .left ⊆ formulasIn d
-left-named (row d r F premises {s = s} inside i) A m = Memᴰ·append-right (principals F) (Memᴰ·append-left _ m)
+left-named : {s : Sequent} {ss : List Sequent} (d : Derivation rules (s ∷ ss)) → s .left ⊆ formulasIn d
+left-named (row d r u F premises {s = s} inside i) A m = Memᴰ·append-right (principals F) (Memᴰ·append-left _ m)
 
 -- a model that confirms the claim of a derivation over so many atoms can stand on an M line
 model-good : {L R : List Formula} (atoms : ℕ) (e : EndsIn L R) → ((p : ℕ) → p ∈ atomsIn (formulasIn (e .derivation)) → p < atoms)
@@ -375,7 +375,7 @@ pub entailed-text : (L R : List Formula) → Entails L R → (e : EndsIn L R) ×
 entailed-text L R h = (e, named-text (plainNames n) (λ l. plain-good n (rw (plain-length n) at l)) e (λ p m. rw (plain-length n) (below-count _ p m)))
   where
     e : EndsIn L R
-    e = complete L R h
+    e = derivable-iff-entailed L R .1 h
 
     n : ℕ
     n = countTo (atomsIn (formulasIn (e .derivation)))

@@ -7,12 +7,12 @@ use mathlib.Core.Option.{none, some}
 use native.Mathlib.Decide.{ℕ-discrete}
 use native.Mathlib.Omega.{arith}
 use lib.Dec.{lit≤}
-use Rattle.elk.proofs.Decision.{instance?}
+use Rattle.elk.proofs.Decision.{instance?, too-many-atoms?}
 use Rattle.elk.specs.Rules.{same, notl, notr, def, impl}
 use Rattle.format.specs.Text.{Bytes, bytes, sameList, isName, strictlyRising}
 use Rattle.format.specs.File.{Node, formulas}
 use Rattle.format.specs.Line.{makeRow}
-use Rattle.format.specs.Tests.{wrongPremises, wrongStep}
+use Rattle.format.specs.Tests.{wrongPremises, tooManyAtoms, wrongStep}
 use Rattle.format.specs.Model.{none-wanted}
 use Rattle.format.specs.Good.{GoodBody, atoms, formula, row}
 use Rattle.format.specs.Written.{parted, ended, digits, decimal, listBytes, principalBytes, bytesOf}
@@ -56,7 +56,8 @@ whole-written = refl
 
 -- so the theorem on good documents is not empty
 pub whole-good : GoodDocument whole
-unfolding isName sameList strictlyRising formulas wrongPremises wrongStep instance? ℕ-discrete ended parted bytesOf decimal digits listBytes principalBytes
+unfolding isName sameList strictlyRising formulas wrongPremises tooManyAtoms too-many-atoms? wrongStep instance? ℕ-discrete
+    ended parted bytesOf decimal digits listBytes principalBytes
 whole-good =
     record {
       names = names-good (bytes "p" ∷ []) (λ name m. is-name (List·Memᴰ·eq-of-singleton m)) (λ i j h k e. omega arith);

@@ -10,7 +10,7 @@ use lib.ListN.{length}
 use borrow.Author.Tests.{leb-true, leb-false, lt-leb, ne-eqb}
 use Rattle.elk.specs.Rules.{Rule, wordOf, def, same, andl, andr, wr, bot, orr, orl, notl, impr, impl, notr, rcut, unst}
 use Rattle.elk.specs.Rules.{xini, xnnl, xnnr, xandl, xandr1, xandr2, xorr, xorl1, xorl2}
-use Rattle.elk.specs.Rules.{ximpl1, ximpl2, ximpl3, ximpr1, ximpr2, xnimpl, xnimpr1, xnimpr2, xnandl1, xnandl2, xnandr, xnorl, xnorr1, xnorr2}
+use Rattle.elk.specs.Rules.{ximpl1, ximpl2, ximpl3, ximpr1, ximpr2, xnimpl, xnimpr1, xnimpr2, xnandl1, xnandl2, xnandr, xnorl, xnorr1, xnorr2, swap}
 use Rattle.format.specs.Text.{Bytes, bytes, tab, lineFeed, comma, all, isDigit, isLetter, startsWithLetter, isName, sameList, fieldsOf, linesOf}
 use Rattle.format.specs.File.{Node, Row}
 use Rattle.format.specs.Line.{Line, atomLine, formulaLine, rowLine, modelLine, claimLine, lineOf}
@@ -112,6 +112,7 @@ rule-word = elim [
   | xnorl ↦ (refl, refl)
   | xnorr1 ↦ (refl, refl)
   | xnorr2 ↦ (refl, refl)
+  | swap ↦ (refl, refl)
 ]
 
 word-visible : (r : Rule) → Visible (bytes (wordOf r))

@@ -1,13 +1,13 @@
--- What it is for a row to pass its rule (paper 01, numbers 10 and 11), in the calculus' own terms. RowPasses proves
--- `PassesExactly` and `TenExactly` of every row over every body.
+-- What it is for a row to pass its rule (numbers 10 and 11 of paper 01, and 18 of 02, M-104), in the calculus' own terms.
+-- RowPasses proves `PassesExactly`, `TenExactly` and `EighteenExactly` of every row over every body.
 use mathlib.Core.Path.{_≡_}
 use mathlib.Core.List.{map}
 use mathlib.Core.Logic.{_↔_}
-use mathlib.Core.Option.{none}
+use mathlib.Core.Option.{none, some}
 use mathlib.Core.Bool.{false}
 use Rattle.elk.specs.Sequent.{Sequent}
 use Rattle.elk.specs.Rules.{entry, hasPrincipal, premiseKinds}
-use Rattle.elk.specs.Instance.{Instance}
+use Rattle.elk.specs.Instance.{Instance, TooManyAtoms}
 use Rattle.format.specs.Text.{_<$>_}
 use Rattle.format.specs.File.{Row, Body, decodedAt, sequentOf}
 use Rattle.format.specs.Tests.{first, present, premisesOf, wrongPremises, ruleTests}
@@ -28,3 +28,11 @@ pub record RightPremises (b : Body) (r : Row) : Type 0 where
 -- number 10 is for rows that lack these, and for no others
 abbrev pub TenExactly : Body → Row → Type 0
 TenExactly b r = (wrongPremises b r ≡ false) ↔ RightPremises b r
+
+-- it is a row of `swap`, no B with at most 8 atoms fits, and some B that leaves the sides right has more
+abbrev pub RowTooWide : Body → Row → Type 0
+RowTooWide b r = TooManyAtoms (r .rule) (decodedAt (b .nodes) <$> r .principal) (premisesOf b r) (sequentOf (b .nodes) r)
+
+-- number 18 is given to these rows, and to no others
+abbrev pub EighteenExactly : Body → Row → Type 0
+EighteenExactly b r = (first (ruleTests b r) ≡ some 18) ↔ RowTooWide b r

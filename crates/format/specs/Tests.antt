@@ -1,5 +1,5 @@
--- What each kind of line can be refused for (paper 01, "How a text is turned down", and 02, M-101, for the M line): a list of
--- tests, each under its number, of which the first that applies is given.
+-- What each kind of line can be refused for (paper 01, "How a text is turned down", and 02, M-101 for the M line and M-104 for
+-- number 18): a list of tests, each under its number, of which the first that applies is given.
 use Prim.Native.Nat.{ℕ, _+_}
 use mathlib.Core.Bool.{Bool, true, false, cond, not, _&&_, _||_}
 use mathlib.Core.List.{List, [], _∷_, _++_, map}
@@ -8,7 +8,7 @@ use lib.Dec.{eqb, ltb, leb}
 use lib.ListN.{length, getD}
 use Rattle.elk.specs.Sequent.{Kind, elk, refutation, Sequent}
 use Rattle.elk.specs.Rules.{entry, hasPrincipal, premiseKinds, kindOf}
-use Rattle.elk.proofs.Decision.{instance?}
+use Rattle.elk.proofs.Decision.{instance?, too-many-atoms?}
 use Rattle.format.specs.Text.{Bytes, _<$>_, any, isName, sameList, strictlyRising}
 use Rattle.format.specs.File.{Node, Row, Body, Stage, in-atoms, in-formulas, in-rows, modelled, claimed, File, decodedAt, sequentOf}
 use Rattle.format.specs.Tables.{nodeRecord, leftPool, rightPool, mostAtoms, mostFormulas, mostRows, mostEntries, mostOnSide}
@@ -168,13 +168,17 @@ abbrev pub isNo : {X : Type 0} → Dec X → Bool
 isNo (yes x) = false
 isNo (no n) = true
 
+-- no B with at most 8 atoms makes the row an instance of `swap`, and some B that leaves its sides right has more
+unfoldable pub tooManyAtoms : Body → Row → Bool
+tooManyAtoms b r = not (isNo (too-many-atoms? (r .rule) (decodedAt (b .nodes) <$> r .principal) (premisesOf b r) (sequentOf (b .nodes) r)))
+
 -- no sets L, R (Q, S) make the row an instance of its rule
 unfoldable pub wrongStep : Body → Row → Bool
 wrongStep b r = isNo (instance? (r .rule) (decodedAt (b .nodes) <$> r .principal) (premisesOf b r) (sequentOf (b .nodes) r))
 
--- the premises, and then the step
+-- the premises, then the atoms of `swap`, and then the step
 abbrev pub ruleTests : Body → Row → List Test
-ruleTests b r = (10 when wrongPremises b r) ∷ (11 when wrongStep b r) ∷ []
+ruleTests b r = (10 when wrongPremises b r) ∷ (18 when tooManyAtoms b r) ∷ (11 when wrongStep b r) ∷ []
 
 -- all tests of a row but its order
 abbrev pub bodyTests : Body → Row → List Test

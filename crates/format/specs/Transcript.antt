@@ -9,7 +9,7 @@ use lib.ListN.{length}
 use Rattle.equilibrium.specs.Formula.{Formula, falsum, atom, neg, conj, disj, imp}
 use Rattle.equilibrium.specs.Meaning.{_∈_, _≈_}
 use Rattle.elk.specs.Sequent.{Sequent, Same, AllSame}
-use Rattle.elk.specs.Rules.{Rule}
+use Rattle.elk.specs.Rules.{Rule, rules}
 use Rattle.elk.specs.Derivation.{Derivation, start, row, EndsIn}
 use Rattle.format.specs.Text.{Bytes, bytes, strictlyRising, _<$>_}
 use Rattle.format.specs.File.{Node, Row, Body, formulas, decodedAt, decoded, sequentOf}
@@ -41,9 +41,9 @@ principals none = []
 principals (some A) = A ∷ []
 
 -- the formulas that a derivation names: the principal formulas and the sides of its rows
-abbrev pub formulasIn : {rows : List Sequent} → Derivation rows → List Formula
+abbrev pub formulasIn : {ss : List Sequent} → Derivation rules ss → List Formula
 formulasIn start = []
-formulasIn (row d r F premises {s = s} inside i) = principals F ++ (s .left ++ (s .right ++ formulasIn d))
+formulasIn (row d r u F premises {s = s} inside i) = principals F ++ (s .left ++ (s .right ++ formulasIn d))
 
 -- a row, with the body before it, is the step of a derivation from these premises to s by the rule r
 pub record IsStep (b : Body) (q : Row) (r : Rule) (F : Option Formula) (premises : List Sequent) (s : Sequent) : Type 0 where
@@ -53,9 +53,9 @@ pub record IsStep (b : Body) (q : Row) (r : Rule) (F : Option Formula) (premises
   pub sequent : Same (sequentOf (b .nodes) q) s
 
 -- the rows are the steps of the derivation, in its order
-abbrev pub AreSteps : ℕ → List Node → {ss : List Sequent} → List Row → Derivation ss → Type 0
+abbrev pub AreSteps : ℕ → List Node → {ss : List Sequent} → List Row → Derivation rules ss → Type 0
 AreSteps atoms nodes rows start = rows ≡ []
-AreSteps atoms nodes rows (row d r F premises {s = s} inside i) =
+AreSteps atoms nodes rows (row d r u F premises {s = s} inside i) =
     (before : List Row) × (q : Row) × (rows ≡ before ++ q ∷ []) × AreSteps atoms nodes before d
     × IsStep (record { atoms = atoms; nodes = nodes; rows = before }) q r F premises s
 
@@ -75,7 +75,7 @@ SidesRise r = (strictlyRising (r .left) ≡ true) × (strictlyRising (r .right) 
 
 -- Formulas and rows for a derivation over so many atoms, as few as can be: one row for each step, each formula that it
 -- needs once, and each formula of a side once.
-pub record Transcript (atoms : ℕ) {ss : List Sequent} (d : Derivation ss) : Type 0 where
+pub record Transcript (atoms : ℕ) {ss : List Sequent} (d : Derivation rules ss) : Type 0 where
   pub nodes : List Node
   pub rows : List Row
   pub steps : AreSteps atoms nodes rows d
@@ -85,7 +85,8 @@ pub record Transcript (atoms : ℕ) {ss : List Sequent} (d : Derivation ss) : Ty
   pub good : Within (record { atoms = atoms; nodes = nodes; rows = rows }) → GoodBody (record { atoms = atoms; nodes = nodes; rows = rows })
 
 -- the transcript as a whole file, with names, perhaps an M line, and a claim
-abbrev pub documentOf : List Bytes → {atoms : ℕ} {ss : List Sequent} {d : Derivation ss} → Transcript atoms d → Option (List ℕ) → List ℕ → List ℕ → Document
+abbrev pub documentOf : List Bytes → {atoms : ℕ} {ss : List Sequent} {d : Derivation rules ss} → Transcript atoms d
+    → Option (List ℕ) → List ℕ → List ℕ → Document
 documentOf names t model left right = record { names = names; nodes = t .nodes; rows = t .rows; model = model; left = left; right = right }
 
 -- the atoms of an M line are written in strictly rising order
