@@ -1,3 +1,4 @@
 -- The laws of formulas that hold alike.
 pub mod Listing
 pub mod TruthBits
+pub mod Remaining

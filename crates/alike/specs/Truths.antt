@@ -24,9 +24,9 @@ thereAt t place j = cond (ltb place 3) (has j (2 * place + 1)) (has t place)
 unfoldable pub hereAt : ℕ → ℕ → ℕ → Bool
 hereAt h place j = cond (ltb place 3) (has j (2 * place + 1) && has j (2 * place)) (has h place)
 
--- the place of an atom, 8 where it has none
+-- the place of an atom
 abbrev pub placeOf : List ℕ → ℕ → ℕ
-placeOf places p = getD places p 8
+placeOf places p = getD places p 0
 
 -- digit j of the word that a table has for formula i
 abbrev pub bitOf : List ℕ → ℕ → ℕ → Bool
