@@ -2,3 +2,5 @@
 pub mod Listing
 pub mod TruthBits
 pub mod Remaining
+pub mod Words
+pub mod Surviving

@@ -84,11 +84,11 @@ module _ {P : ℕ → Type 0} {alive : ℕ} where
 
     -- it has not
     pub filtering-drops : (P p → ⊥) → Filtering P alive kept rest′
-    filtering-drops no = record {
+    filtering-drops lacks = record {
       small = small′;
       kept-in = f .kept-in;
       rest-in = λ c m. f .rest-in c (its c .1 (inr m));
-      others = λ c m o. ⊎-elim inl (λ k. ⊎-elim (λ (e : c ≡ p). absurd (no (subst P e o))) inr (its c .0 k)) (f .others c m o);
+      others = λ c m o. ⊎-elim inl (λ k. ⊎-elim (λ (e : c ≡ p). absurd (lacks (subst P e o))) inr (its c .0 k)) (f .others c m o);
     }
 
   -- all are asked
@@ -105,18 +105,18 @@ module _ (Q : ℕ → ℕ → Type 0) where
   remain-first alive c = (λ m. (m, λ i l. absurd (omega arith)), λ h. h .0)
 
   -- one more
-  pub remain-next : {alive kept kept′ n : ℕ} → Remain (λ c. (i : ℕ) → i < n → Q i c) alive kept → Remain (Q n) kept kept′
+  pub remain-next : (alive kept kept′ n : ℕ) → Remain (λ c. (i : ℕ) → i < n → Q i c) alive kept → Remain (Q n) kept kept′
       → Remain (λ c. (i : ℕ) → i < n + 1 → Q i c) alive kept′
-  remain-next {n = n} r s c = (
+  remain-next alive kept kept′ n r s c = (
     λ m. let k = s c .0 m in let o = r c .0 (k .0) in
         (o .0, λ i l. ⊎-elim (o .1 i) (λ (e : i ≡ n). subst (λ (x : ℕ). Q x c) (sym e) (k .1)) (at-end n i (omega arith))),
     λ h. s c .1 (r c .1 (h .0, λ i l. h .1 i (omega arith)), h .1 n (omega arith)),
   )
 
   -- none remains, whatever follows
-  pub remain-none : {alive kept n last : ℕ} → Remain (λ c. (i : ℕ) → i < n → Q i c) alive kept → kept < 2 ^ 64 → members kept ≡ [] → n ≤ last
+  pub remain-none : (alive kept n last : ℕ) → Remain (λ c. (i : ℕ) → i < n → Q i c) alive kept → kept < 2 ^ 64 → members kept ≡ [] → n ≤ last
       → Remain (λ c. (i : ℕ) → i < last → Q i c) alive 0
-  remain-none {kept = kept} r small none l c = (
+  remain-none alive kept n last r small none l c = (
     λ m. absurd (false≢true (sym (has-zero c) ∙ m)),
     λ h. absurd (List·Memᴰ·not-nil (subst (λ (xs : List ℕ). c ∈ xs) none (member-members kept small c .0 (r c .1 (h .0, λ i k. h .1 i (omega arith)))))),
   )

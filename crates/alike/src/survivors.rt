@@ -7,7 +7,7 @@ ghost use mathlib.Core.Path.{_≡_};
 ghost use lib.ListN.{getD};
 ghost use Rattle.atomset.specs.AtomSet.{Member};
 ghost use Rattle.alike.specs.Survivors.{SameWord, mostPlaces, AlikeBelow, AlikeAll};
-use truths::judge_listed;
+use crate::truths::judge_listed;
 use atomset::count;
 use atomset::first;
 use atomset::insert;
