@@ -4,3 +4,4 @@ pub mod TruthBits
 pub mod Remaining
 pub mod Words
 pub mod Surviving
+pub mod Covering

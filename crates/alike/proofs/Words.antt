@@ -41,15 +41,20 @@ word-of (suc k) f = by (f 0) refl (word-of k (λ i. f (suc i)))
     by false e w = record { word = 2 * w .word; small = omega (arith, pow-suc 2 k, w .small); digits = even f w e }
 
 module _ (places : List ℕ) (h t j : ℕ) where
-  abbrev heres : ℕ → Bool
+  abbrev pub heres : ℕ → Bool
   heres p = hereAt h (placeOf places p) j
 
-  abbrev theres : ℕ → Bool
+  abbrev pub theres : ℕ → Bool
   theres p = thereAt t (placeOf places p) j
 
   -- pair j as two sets of atoms
   pub pair-of : Pair places h t j (word-of 64 heres .word) (word-of 64 theres .word)
-  pair-of = record { here = word-of 64 heres .digits; there = word-of 64 theres .digits }
+  pair-of = record {
+    here-small = word-of 64 heres .small;
+    there-small = word-of 64 theres .small;
+    here = word-of 64 heres .digits;
+    there = word-of 64 theres .digits;
+  }
 
 -- one word for both exactly if they hold alike
 pub same-word-iff : (b : Body) (places : List ℕ) (h t : ℕ) (heres theres : List ℕ) (a x : ℕ) → Right b places h t heres theres a → Right b places h t heres theres x

@@ -1,3 +1,4 @@
 pub mod Under
 pub mod Truths
 pub mod Survivors
+pub mod Places
