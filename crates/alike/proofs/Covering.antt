@@ -27,7 +27,7 @@ use Rattle.pairs.proofs.Parts.{part-inside, every-part}
 use Rattle.alike.specs.Truths.{hereAt, thereAt, placeOf, Pair}
 use Rattle.alike.specs.Survivors.{AlikeOver}
 use Rattle.alike.specs.Places.{Seated, Outer}
-use Rattle.alike.proofs.Words.{word-of, pair-of, heres, theres}
+use Rattle.alike.proofs.Words.{same-truth, word-of, pair-of, heres, theres}
 use Rattle.alike.proofs.Surviving.{part-small}
 
 -- what a list is mapped to
@@ -38,12 +38,6 @@ in-map {X} f (x ∷ xs) y =
       λ m. ⊎-elim (λ (e : y ≡ f x). (x, List·Memᴰ·head refl, e)) (λ k. let r = rest .0 k in (r .0, List·Memᴰ·tail (r .1), r .2)) (List·Memᴰ·cases-cons m),
       λ (z, m, e). ⊎-elim (λ (k : z ≡ x). List·Memᴰ·head (e ∙ ap f k)) (λ k. List·Memᴰ·tail (rest .1 (z, k, e))) (List·Memᴰ·cases-cons m),
     )
-
--- two tests that say the same are one
-same-truth : (a b : Bool) → (a ≡ true) ↔ (b ≡ true) → a ≡ b
-same-truth true b e = sym (e .0 refl)
-same-truth false true e = e .1 refl
-same-truth false false e = refl
 
 -- a decision as a test
 answer : {X : Type 0} → Dec X → Bool

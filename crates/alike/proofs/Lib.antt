@@ -5,3 +5,5 @@ pub mod Remaining
 pub mod Words
 pub mod Surviving
 pub mod Covering
+pub mod Seating
+pub mod Choosing

@@ -9,6 +9,7 @@ use mathlib.Core.Logic.{_⊎_, inl, inr, ⊎-elim}
 use mathlib.Core.Path.{_≡_, refl, sym, ap, subst, _∙_}
 use lib.ListN.{length, getD, set, take, drop}
 use Rattle.equilibrium.specs.Meaning.{_∈_}
+use Rattle.format.proofs.GoodBodies.{in-getD}
 use Rattle.alike.specs.Under.{Marked, PartIn, PartsMarked, Listed}
 
 -- each number is larger than all after it
@@ -16,18 +17,12 @@ abbrev pub Falling : List ℕ → Type 0
 Falling [] = Unit {0}
 Falling (x ∷ xs) = ((y : ℕ) → y ∈ xs → y < x) × Falling xs
 
--- what stands at a place of a list is in it
-pub at : (xs : List ℕ) (k : ℕ) → k < length xs → getD xs k 0 ∈ xs
-at [] k l = absurd (omega arith)
-at (x ∷ xs) zero l = List·Memᴰ·head refl
-at (x ∷ xs) (suc k) l = List·Memᴰ·tail (at xs k (omega arith))
-
 -- a smaller number of a falling list comes after
 pub falls-after : (xs : List ℕ) → Falling xs → (k : ℕ) → k < length xs → (y : ℕ) → y ∈ xs → y < getD xs k 0 → y ∈ drop (suc k) xs
 falls-after [] f k l y m s = absurd (List·Memᴰ·not-nil m)
 falls-after (x ∷ xs) f zero l y m s = ⊎-elim (λ (e : y ≡ x). absurd (omega arith)) (λ i. i) (List·Memᴰ·cases-cons m)
 falls-after (x ∷ xs) f (suc k) l y m s =
-    ⊎-elim (λ (e : y ≡ x). absurd (omega (arith, f .0 (getD xs k 0) (at xs k (omega arith))))) (λ i. falls-after xs (f .1) k (omega arith) y i s) (List·Memᴰ·cases-cons m)
+    ⊎-elim (λ (e : y ≡ x). absurd (omega (arith, f .0 (getD xs k 0) (in-getD xs k 0 (omega arith))))) (λ i. falls-after xs (f .1) k (omega arith) y i s) (List·Memᴰ·cases-cons m)
 
 -- one number more at the end, where it is written
 pub written-next : (xs : List ℕ) (n v : ℕ) → n < length xs → take (n + 1) (set xs n v) ≡ take n xs ++ v ∷ []
@@ -118,7 +113,7 @@ module _ {formulas : List ℕ} {end : ℕ} {marks₀ : List ℕ} where
     marked = λ x l m. s .listed x (omega arith) l (s .kept x m);
     below = λ x m. s .from x m .1;
     ordered = λ k l p part.
-        let here = at (take n list) k l in
+        let here = in-getD (take n list) k 0 l in
         falls-after (take n list) (s .falls) k l p
         (s .listed p (omega arith) (omega (arith, part .before, s .from _ here .1)) (s .parts _ here p part)) (part .before);
   }

@@ -17,7 +17,7 @@ use Rattle.format.specs.File.{Node, Body, decodedAt, formulaOf, formulas as for
 use Rattle.format.specs.Tables.{nodeRecord, mostFormulas}
 use Rattle.format.specs.Tests.{sameTruth, refersAhead, unknownFormula}
 use Rattle.format.proofs.Formulas.{known-earlier}
-use Rattle.format.proofs.GoodBodies.{beforeNode, good-held, at-end}
+use Rattle.format.proofs.GoodBodies.{beforeNode, good-held, at-end, in-getD}
 use Rattle.atomset.specs.AtomSet.{has}
 use Rattle.atomset.proofs.Digits.{has-and, has-or, has-not, has-zero}
 use Rattle.tables.specs.Holding.{Formulas}
@@ -27,7 +27,6 @@ use Rattle.pairs.specs.Pairs.{holdsIn}
 use Rattle.pairs.specs.Truths.{byWord}
 use Rattle.pairs.proofs.Truths.{and-self, each-node}
 use Rattle.alike.specs.Under.{PartOf, first-part, second-part, PartIn, PartsAfter}
-use Rattle.alike.proofs.Listing.{at}
 use Rattle.alike.specs.Truths.{hereAt, thereAt, placeOf, bitOf, judgedHere, judgedThere, JudgedBits, Pair, Right, Ready, JudgedAll}
 
 -- ---- constant words
@@ -196,7 +195,7 @@ module _ {b : Body} {table list : List ℕ} (ready : Ready b table list) (places
     (old : (x : ℕ) → x ∈ drop (suc k) list → Right b places h t heres theres x) (i : ℕ) (is : i ≡ getD list k 0)
     (key : NodeRecord) (its : key ≡ recordFrom (nodeAt table i)) (v w : ℕ) (judged : JudgedBits key places h t heres theres v w) where
   known : i < length (b .nodes)
-  known = ready .known i (subst (λ (x : ℕ). x ∈ list) (sym is) (at list k l))
+  known = ready .known i (subst (λ (x : ℕ). x ∈ list) (sym is) (in-getD list k 0 l))
 
   few : i < mostFormulas
   few = omega (arith, known, good-held (ready .held .good) .few-nodes)

@@ -15,6 +15,12 @@ use Rattle.atomset.proofs.Digits.{same-members}
 use Rattle.alike.specs.Truths.{hereAt, thereAt, placeOf, Pair, Right}
 use Rattle.alike.specs.Survivors.{SameWord, AlikeAt}
 
+-- two tests that say the same are one
+pub same-truth : (a b : Bool) → (a ≡ true) ↔ (b ≡ true) → a ≡ b
+same-truth true b e = sym (e .0 refl)
+same-truth false true e = e .1 refl
+same-truth false false e = refl
+
 -- a word of k digits with those given
 pub record WordOf (k : ℕ) (f : ℕ → Bool) : Type 0 where
   pub word : ℕ

@@ -2,3 +2,4 @@ pub mod Under
 pub mod Truths
 pub mod Survivors
 pub mod Places
+pub mod Alike

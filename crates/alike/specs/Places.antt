@@ -1,10 +1,12 @@
 -- Atoms at places: where the atoms of two formulas have places of their own, the pairs of places are all pairs of these atoms.
-use Prim.Native.Nat.{ℕ, _≤_, _<_}
+use Prim.Native.Nat.{ℕ, _^_, _≤_, _<_}
 use mathlib.Core.List.{List}
 use mathlib.Core.Logic.{_↔_}
 use mathlib.Core.Path.{_≡_}
-use Rattle.atomset.specs.AtomSet.{Member}
+use lib.ListN.{length}
+use Rattle.atomset.specs.AtomSet.{Member, members}
 use Rattle.alike.specs.Truths.{placeOf}
+use Rattle.alike.specs.Survivors.{mostPlaces}
 
 -- each atom of the set has a place below n, and no two have one place
 pub record Seated (places : List ℕ) (n set : ℕ) : Type 0 where
@@ -14,3 +16,17 @@ pub record Seated (places : List ℕ) (n set : ℕ) : Type 0 where
 -- the places from 3 on that are below n
 abbrev pub Outer : ℕ → ℕ → Type 0
 Outer n set = (s : ℕ) → Member s set ↔ ((3 ≤ s) × (s < n))
+
+-- a table of places has one for each atom that a file can have
+abbrev pub mostAtomsNoted : ℕ
+mostAtomsNoted = 64
+
+-- the atoms of the set have places of their own, as many as they are
+pub record SeatedAll (set : ℕ) (before after : List ℕ) : Type 0 where
+  pub long : length after ≡ length before
+  pub seated : Seated after (length (members set)) set
+
+-- the places from 3 on below n, of at most 8
+pub record OuterPlaces (n set : ℕ) : Type 0 where
+  pub few : set < 2 ^ mostPlaces
+  pub its : Outer n set

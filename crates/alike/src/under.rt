@@ -12,17 +12,16 @@ use tables::records::node;
 use tables::records::wide;
 
 // Marks a formula, if it is before `end`.
-fn mark(marks: &mut [u8], formula: u16, end: usize)
+pub(crate) fn mark(marks: &mut [u8], formula: usize, end: usize)
     ensures { λ _. ⌜ MarkedBefore formula end (now (marks .entry)) (now (marks .exit)) ⌝ }
 {
-    let at = wide(formula);
-    if at >= end {
+    if formula >= end {
         return;
     }
-    if at >= marks.len() {
+    if formula >= marks.len() {
         return;
     }
-    marks[at] = 1;
+    marks[formula] = 1;
 }
 
 // Marks the parts of a formula.
@@ -33,11 +32,11 @@ fn mark_parts(formulas: &[u16], formula: usize, marks: &mut [u8])
     if key.word < NOT {
         return;
     }
-    mark(marks, key.first, formula);
+    mark(marks, wide(key.first), formula);
     if key.word < AND {
         return;
     }
-    mark(marks, key.second, formula);
+    mark(marks, wide(key.second), formula);
 }
 
 // Lists the formulas under those that are marked, all of which are before `end`, and answers how many they are.

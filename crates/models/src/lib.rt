@@ -2,9 +2,8 @@
 // side, the sheet. The model is one 64-bit word. Its proper parts are counted, and each is judged with the model as a pair of words.
 ghost use mathlib.Core.Path.{_≡_};
 ghost use mathlib.Core.Bool.{not};
-ghost use Prim.Native.Nat.{ℕ, _≤_, _<_, max};
+ghost use Prim.Native.Nat.{_≤_};
 ghost use lib.ListN.{length};
-ghost use Rattle.equilibrium.specs.Meaning.{_∈_};
 ghost use Rattle.format.specs.Text.{all};
 ghost use Rattle.format.specs.Tables.{mostFormulas};
 ghost use Rattle.format.specs.Model.{mostInModel};
@@ -17,6 +16,7 @@ use pairs::fill_here;
 use pairs::fill_there;
 use pairs::holds;
 use pairs::part_of;
+use pairs::past_largest;
 use tables::records::BOT;
 use tables::records::node;
 use tables::records::wide;
@@ -37,29 +37,6 @@ fn only_falsum(formulas: &[u16], side: &[u16]) -> bool
         i += 1;
     }
     true
-}
-
-// The larger of two numbers.
-fn larger(a: usize, b: usize) -> usize
-    ensures { λ r. ⌜ r ≡ max a b ⌝ }
-{
-    if a < b {
-        return b;
-    }
-    a
-}
-
-// A number that is past every formula of a side: one more than the largest.
-fn past_largest(side: &[u16]) -> usize
-    ensures { λ r. ⌜ ((x : ℕ) → x ∈ now (side .entry) → x < r) ⌝ }
-{
-    let mut past = 0;
-    let mut i = 0;
-    while i < side.len() {
-        past = larger(past, wide(side[i]) + 1);
-        i += 1;
-    }
-    past
 }
 
 // Whether all formulas of a side are noted to hold.

@@ -1,3 +1,4 @@
 pub mod Pairs
 pub mod Truths
 pub mod Parts
+pub mod Bounds

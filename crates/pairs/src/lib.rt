@@ -4,10 +4,11 @@
 ghost use mathlib.Core.Path.{_≡_};
 ghost use mathlib.Core.Bool.{Bool, _&&_, _||_};
 ghost use mathlib.Core.List.{List, map};
-ghost use Prim.Native.Nat.{ℕ, min};
+ghost use Prim.Native.Nat.{ℕ, min, max};
 ghost use lib.Dec.{eqb, ltb};
 ghost use lib.ListN.{getD};
 ghost use Rattle.atomset.specs.AtomSet.{has, members, setOf};
+ghost use Rattle.pairs.specs.Bounds.{PastLargest};
 ghost use Rattle.pairs.specs.Parts.{part};
 ghost use Rattle.pairs.specs.Truths.{judgedBy, digit, notedAt, NotedThere, NotedHere};
 use atomset::contains;
@@ -153,4 +154,27 @@ pub fn part_of(set: u64, n: u64) -> u64
         digits /= 2;
     }
     taken
+}
+
+// The larger of two numbers.
+fn larger(a: usize, b: usize) -> usize
+    ensures { λ r. ⌜ r ≡ max a b ⌝ }
+{
+    if a < b {
+        return b;
+    }
+    a
+}
+
+// One more than the largest number of a side, 0 if it is empty.
+pub fn past_largest(side: &[u16]) -> usize
+    ensures { λ r. ⌜ PastLargest (now (side .entry)) r ⌝ }
+{
+    let mut past = 0;
+    let mut i = 0;
+    while i < side.len() {
+        past = larger(past, wide(side[i]) + 1);
+        i += 1;
+    }
+    past
 }

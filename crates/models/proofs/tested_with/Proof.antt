@@ -26,7 +26,7 @@ returns c =
     let bound = noted .before .before in
     let start = bound .before .before .before .before .before in
     let args = start .args in
-    let all-hold = all-there (args .sheet .now) (args .model) (bound .past-largest .ensures) (start .pre .1) (noted .fill-there .ensures) in
+    let all-hold = all-there (args .sheet .now) (args .model) (bound .past-largest .ensures .above) (start .pre .1) (noted .fill-there .ensures) in
     sym (fails-itself (args .formulas .now) (args .sheet .now) (args .model)
     (sym all-hold ∙ sym (asked .holds-all .ensures) ∙ not-true _ (c .if1 .taken)))
 
@@ -37,7 +37,7 @@ undisturbed-requires c κs =
     let start = bound .before .before .before .before .before in
     record {
       few = start .pre .0;
-      below = bound .past-largest .ensures;
+      below = bound .past-largest .ensures .above;
       room = start .pre .2;
       notes = there-noted (start .pre .1) (noted .fill-there .ensures);
     }
@@ -56,7 +56,7 @@ returns-2 c =
     let bound = noted .before .before in
     let start = bound .before .before .before .before .before in
     let args = start .args in
-    let all-hold = all-there (args .sheet .now) (args .model) (bound .past-largest .ensures) (start .pre .1) (noted .fill-there .ensures) in
+    let all-hold = all-there (args .sheet .now) (args .model) (bound .past-largest .ensures .above) (start .pre .1) (noted .fill-there .ensures) in
     by-parts (args .formulas .now) (args .sheet .now) (args .model)
     (sym all-hold ∙ sym (asked .holds-all .ensures) ∙ not-false _ (judged .before .before .before .if1 .left)) (judged .undisturbed .ensures)
 

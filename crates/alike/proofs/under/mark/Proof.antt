@@ -19,15 +19,11 @@ mark-kept marks at y l m = go (ℕ-discrete y at)
     go (yes e) = ap (λ (z : ℕ). getD (set marks at 1) z 0) e ∙ getD-set-same marks at 1 0 l
     go (no n) = getD-set-other marks at y 1 0 n ∙ m
 
-wide-requires : tie.Need-wide-requires
-wide-requires c κs = search needs
-
 returns : tie.Need-returns
-returns c = record { long = refl; kept = λ y m. m; marked = λ l k. absurd (omega (arith, c .before .wide .ensures, c .if1 .taken)); others = λ y l. refl }
+returns c = record { long = refl; kept = λ y m. m; marked = λ l k. absurd (omega (arith, c .if1 .taken)); others = λ y l. refl }
 
 returns-2 : tie.Need-returns-2
-returns-2 c =
-    record { long = refl; kept = λ y m. m; marked = λ l k. absurd (omega (arith, c .before .before .wide .ensures, c .if2 .taken)); others = λ y l. refl }
+returns-2 c = record { long = refl; kept = λ y m. m; marked = λ l k. absurd (omega (arith, c .if2 .taken)); others = λ y l. refl }
 
 slice-write-marks : tie.Need-slice-write-marks
 slice-write-marks c = search needs
@@ -38,14 +34,13 @@ same-length c = search needs
 returns-3 : tie.Need-returns-3
 returns-3 c =
     let passed = c .before in
-    let wide = passed .before .wide in
-    let marks = passed .before .before .before .args .marks .now in
+    let args = passed .before .args in
     record {
-      long = length-set marks _ 1;
-      kept = λ y m. mark-kept marks _ y (search needs) m;
-      marked = λ l k. ap (λ (z : ℕ). getD (set marks (wide .result) 1) z 0) (sym (wide .ensures)) ∙ getD-set-same marks _ 1 0 (search needs);
-      others = λ y l. getD-set-other marks _ y 1 0 (λ e. omega (arith, passed .if1 .left));
+      long = length-set (args .marks .now) _ 1;
+      kept = λ y m. mark-kept (args .marks .now) _ y (search needs) m;
+      marked = λ l k. getD-set-same (args .marks .now) _ 1 0 (search needs);
+      others = λ y l. getD-set-other (args .marks .now) _ y 1 0 (λ e. omega (arith, passed .if1 .left));
     }
 
 pub mark-spec : {M : Type 1} → statement M
-mark-spec = tie.close (tie.spec wide-requires returns returns-2 slice-write-marks same-length returns-3)
+mark-spec = tie.close (tie.spec returns returns-2 slice-write-marks same-length returns-3)

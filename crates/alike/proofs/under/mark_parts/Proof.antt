@@ -24,18 +24,18 @@ module _ {formulas : List ℕ} {i : ℕ} {key : NodeRecord} (is : key ≡ record
       no p (second-part h) = absurd (omega arith)
 
   -- one part
-  one-marked : {before after : List ℕ} → key .word < 3 → MarkedBefore (key .first) i before after → PartsMarked formulas i before after
-  one-marked {before} {after} few m =
+  one-marked : {before after : List ℕ} {x : ℕ} → x ≡ key .first → key .word < 3 → MarkedBefore x i before after → PartsMarked formulas i before after
+  one-marked {before} {after} e few m =
       record { long = m .long; kept = m .kept; parts = λ p part l. mark p (part-of part) (part .before) l; others = m .others }
     where
       mark : (p : ℕ) → PartOf key p → p < i → i ≤ length before → Marked after p
-      mark p (first-part h) b l = m .marked b l
+      mark p (first-part h) b l = subst (Marked after) e (m .marked (omega arith) l)
       mark p (second-part h) b l = absurd (omega arith)
 
   -- two parts
-  two-marked : {before between after : List ℕ} → MarkedBefore (key .first) i before between → MarkedBefore (key .second) i between after
-      → PartsMarked formulas i before after
-  two-marked {before} {between} {after} m k = record {
+  two-marked : {before between after : List ℕ} {x y : ℕ} → x ≡ key .first → y ≡ key .second → MarkedBefore x i before between
+      → MarkedBefore y i between after → PartsMarked formulas i before after
+  two-marked {before} {between} {after} e f m k = record {
     long = k .long ∙ m .long;
     kept = λ x w. k .kept x (m .kept x w);
     parts = λ p part l. mark p (part-of part) (part .before) l;
@@ -43,14 +43,17 @@ module _ {formulas : List ℕ} {i : ℕ} {key : NodeRecord} (is : key ≡ record
   }
     where
       mark : (p : ℕ) → PartOf key p → p < i → i ≤ length before → Marked after p
-      mark p (first-part h) b l = k .kept p (m .marked b l)
-      mark p (second-part h) b l = k .marked b (omega (arith, m .long))
+      mark p (first-part h) b l = k .kept p (subst (Marked between) e (m .marked (omega arith) l))
+      mark p (second-part h) b l = subst (Marked after) f (k .marked (omega arith) (omega (arith, m .long)))
 
 node-requires : tie.Need-node-requires
 node-requires c κs = search needs
 
 returns : tie.Need-returns
 returns c = none-marked (c .before .before .node .ensures) (c .if1 .taken)
+
+wide-requires : tie.Need-wide-requires
+wide-requires c κs = search needs
 
 mark-requires : tie.Need-mark-requires
 mark-requires c κs = search needs
@@ -61,7 +64,11 @@ same-length c = c .before .before .before .before .mark .ensures .long
 returns-2 : tie.Need-returns-2
 returns-2 c =
     let marked = c .before .before .before .before in
-    one-marked (marked .before .before .before .before .node .ensures) (c .if2 .taken) (marked .mark .ensures)
+    let own = marked .before in
+    one-marked (own .before .before .before .before .node .ensures) (own .wide .ensures) (c .if2 .taken) (marked .mark .ensures)
+
+wide-requires-2 : tie.Need-wide-requires-2
+wide-requires-2 c κs = search needs
 
 mark-requires-2 : tie.Need-mark-requires-2
 mark-requires-2 c κs = search needs
@@ -69,14 +76,17 @@ mark-requires-2 c κs = search needs
 same-length-2 : tie.Need-same-length-2
 same-length-2 c =
     let second = c .before .before in
-    second .mark2 .ensures .long ∙ second .before .before .before .before .before .before .mark .ensures .long
+    second .mark2 .ensures .long ∙ second .before .before .before .before .before .before .before .mark .ensures .long
 
 returns-3 : tie.Need-returns-3
 returns-3 c =
     let second = c .before .before in
-    let first = second .before .before .before .before .before .before in
-    two-marked (first .before .before .before .before .node .ensures) (first .mark .ensures) (second .mark2 .ensures)
+    let first = second .before .before .before .before .before .before .before in
+    let own = first .before in
+    two-marked (own .before .before .before .before .node .ensures) (own .wide .ensures) (second .before .wide2 .ensures) (first .mark .ensures)
+    (second .mark2 .ensures)
 
 pub mark-parts-spec : {M : Type 1} → statement M
 mark-parts-spec =
-    tie.close (tie.spec node-requires returns mark-requires same-length returns-2 mark-requires-2 same-length-2 returns-3)
+    tie.close
+    (tie.spec node-requires returns wide-requires mark-requires same-length returns-2 wide-requires-2 mark-requires-2 same-length-2 returns-3)

@@ -1,0 +1,140 @@
+-- Places given to the atoms of a set one by one, and the places from 3 on as a word.
+use Prim.Native.Nat.{ℕ, zero, suc, _+_, _-_, _^_, _≤_, _<_}
+use native.Mathlib.Decide.{ℕ-discrete, decLt}
+use native.Mathlib.Omega.{arith}
+use mathlib.Core.Bool.{Bool, true, false, not, _&&_, true≢false, false≢true}
+use mathlib.Core.List.{List, [], _∷_, List·Memᴰ·not-nil}
+use mathlib.Core.Logic.{_⊎_, inl, inr, ⊎-elim, _↔_}
+use mathlib.Core.Path.{_≡_, refl, sym, ap, ap₂, subst, _∙_}
+use lib.ListN.{length, getD, set, length-set}
+use lib.Pow.{pow-pos}
+use lib.Seq.{getD-set-same, getD-set-other}
+use Rattle.equilibrium.specs.Meaning.{_∈_}
+use Rattle.atomset.specs.AtomSet.{has, Member, members, setOf}
+use Rattle.atomset.proofs.Digits.{has-not, has-zero, has-above, same-members}
+use Rattle.atomset.proofs.Membership.{member-lt}
+use Rattle.atomset.proofs.Members.{member-members}
+use Rattle.atomset.proofs.SetOf.{member-setOf, setOf-lt}
+use Rattle.alike.specs.Truths.{placeOf}
+use Rattle.alike.specs.Survivors.{mostPlaces}
+use Rattle.alike.specs.Places.{mostAtomsNoted, Seated, SeatedAll, OuterPlaces}
+use Rattle.alike.proofs.Remaining.{member-walk}
+use Rattle.alike.proofs.Words.{same-truth}
+
+-- the atoms of the set that are not in the rest have places of their own below `place`
+pub record SeatingSoFar (atoms : ℕ) (places : List ℕ) (place rest : ℕ) : Type 0 where
+  pub long : length places ≡ mostAtomsNoted
+  pub small : rest < 2 ^ 64
+  pub counted : place + length (members rest) ≡ length (members atoms)
+  pub rest-in : (p : ℕ) → Member p rest → Member p atoms
+  pub below : (p : ℕ) → Member p atoms → (Member p rest → ⊥) → placeOf places p < place
+  pub apart :
+      (p q : ℕ) → Member p atoms → (Member p rest → ⊥) → Member q atoms → (Member q rest → ⊥) → placeOf places p ≡ placeOf places q → p ≡ q
+
+module _ (atoms : ℕ) where
+  pub seating-starts : {places : List ℕ} → length places ≡ mostAtomsNoted → atoms < 2 ^ 64 → SeatingSoFar atoms places 0 atoms
+  seating-starts long small = record {
+    long = long;
+    small = small;
+    counted = omega arith;
+    rest-in = λ p m. m;
+    below = λ p m n. absurd (n m);
+    apart = λ p q m n. absurd (n m);
+  }
+
+  -- the first of the rest gets the next place
+  pub seating-next : {places : List ℕ} {place rest : ℕ} → SeatingSoFar atoms places place rest → {p rest′ : ℕ} → rest′ < 2 ^ 64
+      → members rest ≡ p ∷ members rest′ → {places′ : List ℕ} → places′ ≡ set places p place → SeatingSoFar atoms places′ (place + 1) rest′
+  seating-next {places} {place} {rest} s {p} {rest′} small′ walk {places′} put = record {
+    long = ap length put ∙ length-set places p place ∙ s .long;
+    small = small′;
+    counted = omega (arith, s .counted, ap length walk);
+    rest-in = λ q m. s .rest-in q (its q .1 (inr m));
+    below = λ q m n. at-or q (λ e. omega (arith, own q e)) (λ d. omega (arith, other q d, s .below q m (before q d n)));
+    apart = λ q r m n k l e.
+        at-or q
+        (λ d. at-or r (λ f. d ∙ sym f) (λ f. absurd (omega (arith, own q d, other r f, s .below r k (before r f l)))))
+        (λ d. at-or r (λ f. absurd (omega (arith, own r f, other q d, s .below q m (before q d n))))
+        (λ f. s .apart q r m (before q d n) k (before r f l) (sym (other q d) ∙ e ∙ other r f)));
+  }
+    where
+      its : (i : ℕ) → Member i rest ↔ ((i ≡ p) ⊎ Member i rest′)
+      its = member-walk rest p rest′ (s .small) small′ walk
+
+      at-or : {X : Type 0} (q : ℕ) → (q ≡ p → X) → ((q ≡ p → ⊥) → X) → X
+      at-or {X} q f g = by (ℕ-discrete q p)
+        where
+          by : Dec (q ≡ p) → X
+          by (yes e) = f e
+          by (no n) = g n
+
+      room : p < length places
+      room = let l = member-lt 64 rest p (s .small) (its p .1 (inl refl)) in omega (arith, s .long)
+
+      own : (q : ℕ) → q ≡ p → placeOf places′ q ≡ place
+      own q e = ap (λ (ps : List ℕ). getD ps q 0) put ∙ ap (λ (i : ℕ). getD (set places p place) i 0) e ∙ getD-set-same places p place 0 room
+
+      other : (q : ℕ) → (q ≡ p → ⊥) → placeOf places′ q ≡ placeOf places q
+      other q n = ap (λ (ps : List ℕ). getD ps q 0) put ∙ getD-set-other places p q place 0 n
+
+      before : (q : ℕ) → (q ≡ p → ⊥) → (Member q rest′ → ⊥) → Member q rest → ⊥
+      before q d n m = ⊎-elim d n (its q .0 m)
+
+  -- no atom is left
+  pub seating-ends : {before places : List ℕ} {place rest : ℕ} → SeatingSoFar atoms places place rest → length before ≡ mostAtomsNoted → members rest ≡ []
+      → SeatedAll atoms before places
+  seating-ends {rest = rest} s long none = record {
+    long = s .long ∙ sym long;
+    seated = record {
+      below = λ p m. omega (arith, s .below p m (gone p), s .counted, ap length none);
+      apart = λ p q m k. s .apart p q m (gone p) k (gone q);
+    };
+  }
+    where
+      gone : (p : ℕ) → Member p rest → ⊥
+      gone p m = List·Memᴰ·not-nil (subst (λ (xs : List ℕ). p ∈ xs) none (member-members rest (s .small) p .0 m))
+
+-- ---- the places from 3 on
+
+-- a word of n ones
+pub ones-iff : (n i : ℕ) → Member i (2 ^ n - 1) ↔ (i < n)
+ones-iff n i =
+    let all : 2 ^ n - 1 - 0 ≡ 2 ^ n - 1 = omega arith in
+    (λ m. member-lt n (2 ^ n - 1) i (omega (arith, pow-pos n)) m, λ l. ap (λ (w : ℕ). has w i) (sym all) ∙ has-not n 0 i (pow-pos n) l ∙ ap not (has-zero i))
+
+-- a word without digits from k on
+small-by-digits : (k w : ℕ) → k ≤ 64 → w < 2 ^ 64 → ((i : ℕ) → Member i w → i < k) → w < 2 ^ k
+small-by-digits k w l fits below = subst (λ (x : ℕ). x < 2 ^ k) (sym same) (low k (λ i m. below i (member-members w fits i .1 m)))
+  where
+    low : (k : ℕ) → ((i : ℕ) → i ∈ members w → i < k) → setOf (members w) < 2 ^ k
+    low k h = setOf-lt k (members w) h
+
+    same : w ≡ setOf (members w)
+    same = same-members 64 w (setOf (members w)) fits (low 64 (λ i m. member-lt 64 w i fits (member-members w fits i .1 m))) (λ i h.
+        let mem = member-members w fits i in
+        let its = member-setOf (members w) i in
+        same-truth (has w i) (has (setOf (members w)) i) (λ k. its .1 (mem .0 k), λ k. mem .1 (its .0 k)))
+
+-- n ones but for the first three
+pub outer-ones : (n w : ℕ) → n ≤ mostPlaces → w < 2 ^ 64 → ((i : ℕ) → has w i ≡ (has (2 ^ n - 1) i && not (has 7 i))) → OuterPlaces n w
+outer-ones n w few fits e = record { few = small-by-digits mostPlaces w (omega arith) fits (λ i m. omega (arith, its i .0 m .1)); its = its }
+  where
+    split : (a b : Bool) → (a && not b) ≡ true → (a ≡ true) × (b ≡ true → ⊥)
+    split true true k = absurd (false≢true k)
+    split true false k = (refl, λ h. false≢true h)
+    split false b k = absurd (false≢true k)
+
+    join : (a b : Bool) → a ≡ true → (b ≡ true → ⊥) → (a && not b) ≡ true
+    join true true h n = absurd (n refl)
+    join true false h n = refl
+    join false b h n = absurd (false≢true h)
+
+    its : (s : ℕ) → Member s w ↔ ((3 ≤ s) × (s < n))
+    its s = (
+      λ m. let k = split (has (2 ^ n - 1) s) (has 7 s) (sym (e s) ∙ m) in (by (decLt s 3) (λ l. k .1 (ones-iff 3 s .1 l)), ones-iff n s .0 (k .0)),
+      λ (l, k). e s ∙ join (has (2 ^ n - 1) s) (has 7 s) (ones-iff n s .1 k) (λ h. let low = ones-iff 3 s .0 h in omega arith),
+    )
+      where
+        by : Dec (s < 3) → (s < 3 → ⊥) → 3 ≤ s
+        by (yes l) n = absurd (n l)
+        by (no u) n = omega arith

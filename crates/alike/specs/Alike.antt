@@ -1,0 +1,84 @@
+-- The number that a row of `swap` earns by its candidates for B: formulas that leave its sides right.
+use Prim.Native.Nat.{ℕ, _≤_, _<_}
+use mathlib.Core.Bool.{Bool}
+use mathlib.Core.List.{List, [], _∷_}
+use mathlib.Core.Logic.{_↔_}
+use mathlib.Core.Path.{_≡_}
+use lib.Bits.{bitOr}
+use lib.ListN.{length, getD}
+use Rattle.equilibrium.specs.Formula.{atomsOf}
+use Rattle.equilibrium.specs.Meaning.{_∈_, Equal}
+use Rattle.elk.specs.Instance.{mostSwapped, Narrow}
+use Rattle.format.specs.File.{Body, decodedAt}
+use Rattle.format.specs.Tables.{mostFormulas, mostOnSide}
+use Rattle.atomset.specs.AtomSet.{Member, members}
+use Rattle.tables.specs.Holding.{Formulas}
+use Rattle.known.specs.Known.{AtomNotes}
+use Rattle.sides.specs.Deciding.{Decides}
+use Rattle.alike.specs.Under.{Marked}
+use Rattle.alike.specs.Places.{mostAtomsNoted}
+
+-- the atoms noted of formula x and these are few
+abbrev pub Few : List ℕ → ℕ → ℕ → Type 0
+Few notes atoms x = length (members (bitOr atoms (getD notes x 0))) ≤ mostSwapped
+
+-- what was marked stays so, and the candidates' formulas are marked as far as the table goes
+pub record CandidatesMarked (side : List ℕ) (candidates : ℕ) (before after : List ℕ) : Type 0 where
+  pub long : length after ≡ length before
+  pub kept : (x : ℕ) → Marked before x → Marked after x
+  pub marked : (c : ℕ) → Member c candidates → getD side c 0 < mostFormulas → mostFormulas ≤ length before → Marked after (getD side c 0)
+
+-- a number past a formula and all of a side, within the most formulas
+pub record Bounded (own : ℕ) (side : List ℕ) (n : ℕ) : Type 0 where
+  pub few : n ≤ mostFormulas
+  pub past : (m : ℕ) → m ≤ mostFormulas → own < m → ((x : ℕ) → x ∈ side → x < m) → (own < n) × ((x : ℕ) → x ∈ side → x < n) × (n ≤ m)
+
+-- tables of their full lengths
+pub record Room (places marks list heres theres : List ℕ) : Type 0 where
+  pub places-long : length places ≡ mostAtomsNoted
+  pub marks-long : length marks ≡ mostFormulas
+  pub list-long : length list ≡ mostFormulas
+  pub heres-long : length heres ≡ mostFormulas
+  pub theres-long : length theres ≡ mostFormulas
+
+-- a formula and the candidates' formulas are of a good body
+pub record Held (b : Body) (formulas : List ℕ) (own : ℕ) (side : List ℕ) : Type 0 where
+  pub formulas-held : Formulas b formulas
+  pub own-known : own < length (b .nodes)
+  pub side-known : (x : ℕ) → x ∈ side → x < length (b .nodes)
+
+-- one of the candidates is equal to the formula
+abbrev pub OneEqual : Body → ℕ → List ℕ → ℕ → Type 0
+OneEqual b own side candidates = (c : ℕ) × Member c candidates × Equal (decodedAt (b .nodes) own) (decodedAt (b .nodes) (getD side c 0))
+
+-- the answer says whether one is, where all their atoms are in the set
+pub record SomeAlike (formulas : List ℕ) (own set : ℕ) (side : List ℕ) (candidates : ℕ) (r : Bool) : Type 0 where
+  pub decides :
+      (b : Body) → Held b formulas own side → ((c : ℕ) → Member c candidates → c < length side)
+      → ((p : ℕ) → p ∈ atomsOf (decodedAt (b .nodes) own) → Member p set)
+      → ((c : ℕ) → Member c candidates → (p : ℕ) → p ∈ atomsOf (decodedAt (b .nodes) (getD side c 0)) → Member p set)
+      → Decides (OneEqual b own side candidates) r
+
+-- the same, by the atoms noted
+pub record SomeEqual (formulas notes : List ℕ) (own atoms : ℕ) (side : List ℕ) (candidates : ℕ) (r : Bool) : Type 0 where
+  pub decides :
+      (b : Body) → Held b formulas own side → AtomNotes b notes → atoms ≡ getD notes own 0 → ((c : ℕ) → Member c candidates → c < length side)
+      → Decides (OneEqual b own side candidates) r
+
+-- a formula of the side fits: it has few atoms together with A, and is equal to it
+abbrev pub OneFits : Body → ℕ → List ℕ → Type 0
+OneFits b own side =
+    (x : ℕ) × (x ∈ side) × (Narrow (decodedAt (b .nodes) own) (decodedAt (b .nodes) x) × Equal (decodedAt (b .nodes) own) (decodedAt (b .nodes) x))
+
+-- a formula of the side has too many atoms
+abbrev pub OneWide : Body → ℕ → List ℕ → Type 0
+OneWide b own side = (x : ℕ) × (x ∈ side) × (Narrow (decodedAt (b .nodes) own) (decodedAt (b .nodes) x) → ⊥)
+
+-- The number of the candidates. Where the tables hold the formulas of a good body with their atoms, and the side has no more entries
+-- than 01 allows, 0 exactly if one fits, and 18 exactly if none does and one has too many atoms. In any tables it is one of 0, 18 and 11.
+pub record CandidatesNumbered (formulas notes : List ℕ) (own : ℕ) (side : List ℕ) (number : ℕ) : Type 0 where
+  pub fits : (b : Body) → Held b formulas own side → AtomNotes b notes → length side ≤ mostOnSide → (number ≡ 0) ↔ OneFits b own side
+  pub wide :
+      (b : Body) → Held b formulas own side → AtomNotes b notes → length side ≤ mostOnSide
+      → (number ≡ 18) ↔ ((OneFits b own side → ⊥) × OneWide b own side)
+  pub one-of : number ∈ 0 ∷ 18 ∷ 11 ∷ []
