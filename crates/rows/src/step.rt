@@ -148,18 +148,15 @@ pub(crate) fn step_number<'a>(
     let step = rule_number(draft.rule, STEP);
     if step == EXCHANGE {
         let principal = draft.principal;
-        let p = principal_number(principal);
         let first = wide(draft.first);
-        let left_one = fetch(rows, left, right, true, first);
-        let right_one = fetch(rows, left, right, false, first);
         return swap_number(
             formulas,
             notes,
-            p,
+            principal_number(principal),
             antecedent,
             succedent,
-            left_one,
-            right_one,
+            fetch(rows, left, right, true, first),
+            fetch(rows, left, right, false, first),
         );
     }
     if step_holds(

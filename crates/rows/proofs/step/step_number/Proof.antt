@@ -15,11 +15,11 @@ use Rattle.rows.proofs.step.step_number.Tie as tie
 rule-number-requires : tie.Need-rule-number-requires
 rule-number-requires c κs = search needs
 
-principal-number-requires : tie.Need-principal-number-requires
-principal-number-requires c κs = search needs
-
 wide-requires : tie.Need-wide-requires
 wide-requires c κs = search needs
+
+principal-number-requires : tie.Need-principal-number-requires
+principal-number-requires c κs = search needs
 
 fetch-requires : tie.Need-fetch-requires
 fetch-requires c κs = search needs
@@ -34,12 +34,12 @@ returns : tie.Need-returns
 returns c =
     let two = c .before in
     let one = two .before in
-    let first = one .before in
-    let p = first .before in
-    let asked = p .before .before in
+    let p = one .before in
+    let first = p .before in
+    let asked = first .before .before in
     record {
       given = λ b q j right-premises. swap-refetched j right-premises _ (first .wide .ensures) (one .fetch .ensures) (two .fetch2 .ensures)
-          (is-exchange (entry (q .rule)) (sym (asked .rule-number .ensures ∙ asked-number j 0 (omega arith)) ∙ p .before .if1 .taken))
+          (is-exchange (entry (q .rule)) (sym (asked .rule-number .ensures ∙ asked-number j 0 (omega arith)) ∙ first .before .if1 .taken))
           _ (p .principal-number .ensures) _ (c .swap-number .ensures);
       one-of = c .swap-number .ensures .one-of;
     }
@@ -73,8 +73,8 @@ step-number-spec =
     tie.close
     (tie.spec
     rule-number-requires
-    principal-number-requires
     wide-requires
+    principal-number-requires
     fetch-requires
     fetch-requires-2
     swap-number-requires
