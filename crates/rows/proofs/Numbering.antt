@@ -49,7 +49,7 @@ numbered-none (suc n) = (λ e. let z : _≡_ {A = ℕ} 0 1 = cc in absurd (omega
 
 -- the number of a row's rule
 
-pub ten-given : (b : Body) (r : Row) → wrongPremises b r ≡ true → some 10 ≡ first (ruleTests b r)
+ten-given : (b : Body) (r : Row) → wrongPremises b r ≡ true → some 10 ≡ first (ruleTests b r)
 ten-given b r e = sym (ap (λ (t : Bool). cond t (some 10) (first ((18 when tooManyAtoms b r) ∷ (11 when wrongStep b r) ∷ []))) e)
 
 pub none-given : (b : Body) (r : Row) → RowInstance b r → none ≡ first (ruleTests b r)
@@ -125,7 +125,7 @@ module _ (d : Draft) (c : Counts) (left right formulas notes rows leftPool right
           (sym (ap first (early-same b (g .counts) drafted)) ∙ sym is-early ∙ numbered-some early h))
 
   -- none does, and 10 applies, or the step decides
-  pub late-numbered : early ≡ 0 → (n : ℕ) → n ∈ 0 ∷ 10 ∷ 18 ∷ 11 ∷ []
+  late-numbered : early ≡ 0 → (n : ℕ) → n ∈ 0 ∷ 10 ∷ 18 ∷ 11 ∷ []
       → ((b : Body) (r : Row) → Judging b r formulas notes rows leftPool rightPool d (take (d .left .count) left) (take (d .right .count) right)
       → numbered n ≡ first (ruleTests b r))
       → RowNumbered d c left right formulas notes rows leftPool rightPool n

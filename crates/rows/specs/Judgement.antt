@@ -1,4 +1,5 @@
--- The judgement of one row (numbers 5 to 11 of paper 01, and 18 of 02, M-104), by tables that begin with a good body: what stands after it does not matter.
+-- The judgement of one row (numbers 5 to 11 of paper 01, and 18 of 02, M-104), by tables that begin with a good body: what stands after it
+-- does not matter.
 use Prim.Native.Nat.{ℕ}
 use mathlib.Core.Path.{_≡_}
 use mathlib.Core.List.{List, [], _∷_, _++_}
