@@ -1,3 +1,7 @@
 -- The laws of formulas that hold alike.
 pub mod Listing
 pub mod TruthBits
+pub mod Remaining
+pub mod Words
+pub mod Surviving
+pub mod Covering

@@ -4,13 +4,13 @@ use Prim.Native.Nat.{ℕ, zero, suc, _-_, _^_, _≤_, _<_}
 use native.Mathlib.Decide.{ℕ-discrete}
 use native.Mathlib.Omega.{arith}
 use mathlib.Core.Bool.{Bool, true, false, not, _&&_, _||_, false≢true}
-use mathlib.Core.List.{List, [], _∷_, List·Memᴰ·head, List·Memᴰ·tail, List·Memᴰ·cases-cons}
+use mathlib.Core.List.{List, [], _∷_, List·Memᴰ·head, List·Memᴰ·tail, List·Memᴰ·not-nil, List·Memᴰ·cases-cons}
 use mathlib.Core.Logic.{⊎-elim}
 use mathlib.Core.Path.{_≡_, refl, sym, ap, ap₂, subst, _∙_}
 use borrow.Author.Tests.{ne-eqb, leb-false}
 use lib.Bits.{bitAnd, bitOr}
-use lib.ListN.{length, getD, set, drop, length-take}
-use lib.Seq.{getD-set-same, getD-set-other, drop-cons}
+use lib.ListN.{length, getD, set, drop, length-set, length-take}
+use lib.Seq.{getD-set-same, getD-set-other, drop-cons, drop-length}
 use Rattle.equilibrium.specs.Formula.{Formula}
 use Rattle.equilibrium.specs.Meaning.{_∈_}
 use Rattle.format.specs.File.{Node, Body, decodedAt, formulaOf, formulas as formulasOf}
@@ -25,19 +25,21 @@ use Rattle.tables.specs.Records.{nodeAt, recordFrom}
 use Rattle.tables.specs.declared.records.NodeRecord.{NodeRecord}
 use Rattle.pairs.specs.Pairs.{holdsIn}
 use Rattle.pairs.specs.Truths.{byWord}
-use Rattle.pairs.proofs.Truths.{each-node}
+use Rattle.pairs.proofs.Truths.{and-self, each-node}
 use Rattle.alike.specs.Under.{PartOf, first-part, second-part, PartIn, PartsAfter}
-use Rattle.alike.specs.Truths.{hereAt, thereAt, placeOf, bitOf, judgedHere, judgedThere, JudgedBits, Pair, Right, Ready}
+use Rattle.alike.proofs.Listing.{at}
+use Rattle.alike.specs.Truths.{hereAt, thereAt, placeOf, bitOf, judgedHere, judgedThere, JudgedBits, Pair, Right, Ready, JudgedAll}
 
 -- ---- constant words
 
 -- the first n digits are these
-agrees : ℕ → (ℕ → Bool) → ℕ → Bool
+unfoldable pub agrees : ℕ → (ℕ → Bool) → ℕ → Bool
 agrees w f zero = true
 agrees w f (suc n) = sameTruth (has w n) (f n) && agrees w f n
 
 -- a word by a computation over its 64 digits
 pub word-is : (w : ℕ) (f : ℕ → Bool) → agrees w f 64 ≡ true → (j : ℕ) → j < 64 → has w j ≡ f j
+unfolding agrees
 word-is w f = go 64
   where
     same : (a b : Bool) → sameTruth a b ≡ true → a ≡ b
@@ -138,6 +140,7 @@ module _ (key : NodeRecord) (places heres theres : List ℕ) (h t : ℕ) where
 
 -- ---- the formulas of a good body
 
+
 module _ {b : Body} {table : List ℕ} (g : Formulas b table) (places heres theres : List ℕ) (h t j h′ t′ : ℕ) (pair : Pair places h t j h′ t′) where
   -- the digits of a formula are its truths in pair j
   abbrev DigitsRight : ℕ → Type 0
@@ -147,13 +150,120 @@ module _ {b : Body} {table : List ℕ} (g : Formulas b table) (places heres ther
   abbrev Judges : NodeRecord → Formula → Type 0
   Judges r A = (judgedHere r places h heres theres j ≡ holdsIn h′ t′ A) × (judgedThere r places t theres j ≡ holdsIn t′ t′ A)
 
-  -- if those of its parts are
-  node-judged : (i : ℕ) → i < length (b .nodes) → ((p : ℕ) → PartIn table i p → DigitsRight p) → Judges (recordFrom (nodeAt table i)) (decodedAt (b .nodes) i)
-  node-judged i l right = each-node g (λ r A. ((p : ℕ) → PartOf r p → p < i → DigitsRight p) → Judges r A) i l judge (λ p o k. right p (record { part = o; before = k }))
-    where
-      before : (is : List ℕ) → unknownFormula (beforeNode b i) is ≡ false → (p : ℕ) → p ∈ is → p < i
-      before is e p m = omega (arith, known-earlier (beforeNode b i) is e p m, length-take i (b .nodes))
+  module _ (i : ℕ) where
+    -- an operand is before the formula
+    earlier : (is : List ℕ) → unknownFormula (beforeNode b i) is ≡ false → (p : ℕ) → p ∈ is → p < i
+    earlier is e p m = omega (arith, known-earlier (beforeNode b i) is e p m, length-take i (b .nodes))
 
-      judge : (m : Node) → refersAhead (beforeNode b i) m ≡ false → ((p : ℕ) → PartOf (recordFrom (nodeRecord m)) p → p < i → DigitsRight p)
-          → Judges (recordFrom (nodeRecord m)) (formulaOf (formulasOf (b .nodes)) m)
-      judge m e parts = ?
+    -- a connective of two operands
+    two : (f : Bool → Bool → Bool → Bool → Bool) (p q : ℕ) → DigitsRight p → DigitsRight q
+        → f (bitOf theres p j) (bitOf theres q j) (bitOf heres p j) (bitOf heres q j)
+        ≡ f (holdsIn t′ t′ (decodedAt (b .nodes) p)) (holdsIn t′ t′ (decodedAt (b .nodes) q))
+        (holdsIn h′ t′ (decodedAt (b .nodes) p)) (holdsIn h′ t′ (decodedAt (b .nodes) q))
+    two f p q x y = ap₂ (λ (a b : Bool). f a b (bitOf heres p j) (bitOf heres q j)) (x .1) (y .1) ∙ ap₂ (f _ _) (x .0) (y .0)
+
+    -- the formula of a node has them if its operands have
+    node-right : (m : Node) → refersAhead (beforeNode b i) m ≡ false → ((p : ℕ) → PartOf (recordFrom (nodeRecord m)) p → p < i → DigitsRight p)
+        → Judges (recordFrom (nodeRecord m)) (formulaOf (formulasOf (b .nodes)) m)
+    unfolding byWord holdsIn judgedHere judgedThere
+    node-right Node.bot e parts = (refl, refl)
+    node-right (Node.atom k) e parts =
+        let l : k < 64 = omega (arith, leb-false (b .atoms) k e, good-held (g .good) .few-atoms) in
+        (sym (pair .here k l), sym (pair .there k l))
+    node-right (Node.not p) e parts =
+        let x = parts p (first-part (omega arith)) (earlier (p ∷ []) e p (List·Memᴰ·head refl)) in
+        (ap not (x .1), ap not (x .1))
+    node-right (Node.and p q) e parts =
+        let x = parts p (first-part (omega arith)) (earlier (p ∷ q ∷ []) e p (List·Memᴰ·head refl)) in
+        let y = parts q (second-part (omega arith)) (earlier (p ∷ q ∷ []) e q (List·Memᴰ·tail (List·Memᴰ·head refl))) in
+        (two (λ a b c d. c && d) p q x y, two (λ a b c d. a && b) p q x y)
+    node-right (Node.or p q) e parts =
+        let x = parts p (first-part (omega arith)) (earlier (p ∷ q ∷ []) e p (List·Memᴰ·head refl)) in
+        let y = parts q (second-part (omega arith)) (earlier (p ∷ q ∷ []) e q (List·Memᴰ·tail (List·Memᴰ·head refl))) in
+        (two (λ a b c d. c || d) p q x y, two (λ a b c d. a || b) p q x y)
+    node-right (Node.imp p q) e parts =
+        let x = parts p (first-part (omega arith)) (earlier (p ∷ q ∷ []) e p (List·Memᴰ·head refl)) in
+        let y = parts q (second-part (omega arith)) (earlier (p ∷ q ∷ []) e q (List·Memᴰ·tail (List·Memᴰ·head refl))) in
+        (two (λ a b c d. (not a || b) && (not c || d)) p q x y, two (λ a b c d. not a || b) p q x y ∙ sym (and-self _))
+
+    node-judged : i < length (b .nodes) → ((p : ℕ) → PartIn table i p → DigitsRight p) → Judges (recordFrom (nodeAt table i)) (decodedAt (b .nodes) i)
+    node-judged l right =
+        each-node g (λ r A. ((p : ℕ) → PartOf r p → p < i → DigitsRight p) → Judges r A) i l node-right (λ p o k. right p (record { part = o; before = k }))
+
+-- one formula of the list more, from the last one on
+module _ {b : Body} {table list : List ℕ} (ready : Ready b table list) (places heres theres : List ℕ) (h t : ℕ)
+    (here-long : length heres ≡ mostFormulas) (there-long : length theres ≡ mostFormulas) (k : ℕ) (l : k < length list)
+    (old : (x : ℕ) → x ∈ drop (suc k) list → Right b places h t heres theres x) (i : ℕ) (is : i ≡ getD list k 0)
+    (key : NodeRecord) (its : key ≡ recordFrom (nodeAt table i)) (v w : ℕ) (judged : JudgedBits key places h t heres theres v w) where
+  known : i < length (b .nodes)
+  known = ready .known i (subst (λ (x : ℕ). x ∈ list) (sym is) (at list k l))
+
+  few : i < mostFormulas
+  few = omega (arith, known, good-held (ready .held .good) .few-nodes)
+
+  -- the formula itself
+  own : Right b places h t (set heres i v) (set theres i w) i
+  own j m h′ t′ pair =
+      let right = node-judged (ready .held) places heres theres h t j h′ t′ pair i known
+      (λ p part. old p (ready .ordered k l p (subst (λ (x : ℕ). PartIn table x p) is part)) j m h′ t′ pair) in
+      let digits = subst (λ (n : NodeRecord). JudgedBits n places h t heres theres v w) its judged j m in (
+        ap (λ (x : ℕ). has x j) (getD-set-same heres i v 0 (omega (arith, few))) ∙ digits .0 ∙ right .0,
+        ap (λ (x : ℕ). has x j) (getD-set-same theres i w 0 (omega (arith, few))) ∙ digits .1 ∙ right .1,
+      )
+
+  -- and those after it
+  pub right-next : (x : ℕ) → x ∈ drop k list → Right b places h t (set heres i v) (set theres i w) x
+  right-next x m = by (ℕ-discrete x i)
+    where
+      later : (x ≡ i → ⊥) → x ∈ drop (suc k) list
+      later n = ⊎-elim (λ (e : x ≡ getD list k 0). absurd (n (e ∙ sym is))) (λ y. y) (List·Memᴰ·cases-cons (subst (λ (xs : List ℕ). x ∈ xs) (drop-cons list k 0 l) m))
+
+      by : Dec (x ≡ i) → Right b places h t (set heres i v) (set theres i w) x
+      by (yes e) = subst (Right b places h t (set heres i v) (set theres i w)) (sym e) own
+      by (no n) = λ j r h′ t′ pair.
+          let right = old x (later n) j r h′ t′ pair in (
+            ap (λ (y : ℕ). has y j) (getD-set-other heres i x v 0 n) ∙ right .0,
+            ap (λ (y : ℕ). has y j) (getD-set-other theres i x w 0 n) ∙ right .1,
+          )
+
+-- the formulas from place k of the list on are judged
+pub record JudgedFrom (formulas list places : List ℕ) (h t : ℕ) (heres₀ theres₀ heres theres : List ℕ) (k : ℕ) : Type 0 where
+  pub within : k ≤ length list
+  pub here-long : length heres ≡ length heres₀
+  pub there-long : length theres ≡ length theres₀
+  pub right :
+      (b : Body) → Ready b formulas list → length heres₀ ≡ mostFormulas → length theres₀ ≡ mostFormulas
+      → (x : ℕ) → x ∈ drop k list → Right b places h t heres theres x
+
+module _ (formulas list places : List ℕ) (h t : ℕ) (heres₀ theres₀ : List ℕ) where
+  pub judged-none : JudgedFrom formulas list places h t heres₀ theres₀ heres₀ theres₀ (length list)
+  judged-none = record {
+    within = omega arith;
+    here-long = refl;
+    there-long = refl;
+    right = λ b r m n x i. absurd (List·Memᴰ·not-nil (subst (λ (xs : List ℕ). x ∈ xs) (drop-length list) i));
+  }
+
+  -- the one before it too
+  pub judged-next : (heres theres : List ℕ) {k j : ℕ} → JudgedFrom formulas list places h t heres₀ theres₀ heres theres k → 0 < k → j ≡ k - 1
+      → (i : ℕ) → i ≡ getD list j 0 → (key : NodeRecord) → key ≡ recordFrom (nodeAt formulas i) → (v w : ℕ) → JudgedBits key places h t heres theres v w
+      → {heres′ theres′ : List ℕ} → heres′ ≡ set heres i v → theres′ ≡ set theres i w → JudgedFrom formulas list places h t heres₀ theres₀ heres′ theres′ j
+  judged-next heres theres {k} {j} s 0<k e i is key its v w judged {heres′} {theres′} put-here put-there = record {
+    within = omega (arith, s .within);
+    here-long = ap length put-here ∙ length-set heres i v ∙ s .here-long;
+    there-long = ap length put-there ∙ length-set theres i w ∙ s .there-long;
+    right = λ b r m n x y. subst (λ (hs : List ℕ). Right b places h t hs theres′ x) (sym put-here) (subst (λ (ts : List ℕ). Right b places h t (set heres i v) ts x) (sym put-there)
+        (right-next r places heres theres h t (s .here-long ∙ m) (s .there-long ∙ n) j (omega (arith, s .within))
+        (λ x q. s .right b r m n x (subst (λ (z : ℕ). x ∈ drop z list) next q)) i is key its v w judged x y));
+  }
+    where
+      next : suc j ≡ k
+      next = omega arith
+
+  pub judged-whole : {heres theres : List ℕ} {k : ℕ} → JudgedFrom formulas list places h t heres₀ theres₀ heres theres k → k ≡ 0
+      → JudgedAll formulas list places h t heres₀ theres₀ heres theres
+  judged-whole s e = record {
+    here-long = s .here-long;
+    there-long = s .there-long;
+    right = λ b r m n x i. s .right b r m n x (subst (λ (z : ℕ). x ∈ drop z list) (sym e) i);
+  }

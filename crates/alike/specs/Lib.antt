@@ -1,2 +1,4 @@
 pub mod Under
 pub mod Truths
+pub mod Survivors
+pub mod Places

@@ -1,6 +1,6 @@
 -- The truth of formulas in 64 pairs at once. Pair j of the 64 gives the places 0, 1 and 2 what two digits of j say of each, and all
 -- pairs have one h and t for the places from 3 on.
-use Prim.Native.Nat.{ℕ, _+_, _*_, _<_}
+use Prim.Native.Nat.{ℕ, _+_, _*_, _^_, _<_}
 use mathlib.Core.Bool.{Bool, false, cond, not, _&&_, _||_}
 use mathlib.Core.List.{List}
 use mathlib.Core.Path.{_≡_}
@@ -24,9 +24,9 @@ thereAt t place j = cond (ltb place 3) (has j (2 * place + 1)) (has t place)
 unfoldable pub hereAt : ℕ → ℕ → ℕ → Bool
 hereAt h place j = cond (ltb place 3) (has j (2 * place + 1) && has j (2 * place)) (has h place)
 
--- the place of an atom, 8 where it has none
+-- the place of an atom
 abbrev pub placeOf : List ℕ → ℕ → ℕ
-placeOf places p = getD places p 8
+placeOf places p = getD places p 0
 
 -- digit j of the word that a table has for formula i
 abbrev pub bitOf : List ℕ → ℕ → ℕ → Bool
@@ -54,6 +54,8 @@ JudgedBits n places h t heres theres here there =
 
 -- pair j, as two sets of atoms: an atom is in one if its place is
 pub record Pair (places : List ℕ) (h t j h′ t′ : ℕ) : Type 0 where
+  pub here-small : h′ < 2 ^ 64
+  pub there-small : t′ < 2 ^ 64
   pub here : (p : ℕ) → p < 64 → has h′ p ≡ hereAt h (placeOf places p) j
   pub there : (p : ℕ) → p < 64 → has t′ p ≡ thereAt t (placeOf places p) j
 

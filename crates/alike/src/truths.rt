@@ -4,7 +4,7 @@
 ghost use mathlib.Core.Path.{_≡_};
 ghost use Prim.Native.Nat.{ℕ, _<_};
 ghost use Rattle.atomset.specs.AtomSet.{has};
-ghost use Rattle.alike.specs.Truths.{hereAt, thereAt, placeOf, JudgedBits, JudgedAll};
+ghost use Rattle.alike.specs.Truths.{hereAt, thereAt, JudgedBits, JudgedAll};
 use atomset::contains;
 use known::index::note;
 use known::index::put_note;
@@ -24,17 +24,17 @@ struct Truth {
 }
 
 // A word of nothing but ones if the set has the place, and else of zeros.
-fn spread(set: u64, place: usize) -> u64
+fn spread(set: u64, place: u64) -> u64
     ensures { λ r. ⌜ ((j : ℕ) → j < 64 → has r j ≡ has set place) ⌝ }
 {
-    if contains(set, place) {
+    if contains(set, place as usize) {
         return 0xFFFFFFFFFFFFFFFF;
     }
     0
 }
 
 // The truth of the atoms at a place.
-fn truth_of_place(place: usize, h: u64, t: u64) -> Truth
+fn truth_of_place(place: u64, h: u64, t: u64) -> Truth
     ensures { λ r. ⌜ ((j : ℕ) → j < 64 → (has (r .here) j ≡ hereAt h place j) × (has (r .there) j ≡ thereAt t place j)) ⌝ }
 {
     if place == 0 {
@@ -61,23 +61,13 @@ fn truth_of_place(place: usize, h: u64, t: u64) -> Truth
     }
 }
 
-// The place of an atom, 8 where it has none.
-pub(crate) fn place_of(places: &[u8], atom: usize) -> usize
-    ensures { λ r. ⌜ r ≡ placeOf (now (places .entry)) atom ⌝ }
-{
-    if atom < places.len() {
-        return places[atom] as usize;
-    }
-    8
-}
-
 // The truth of the formula of a record, by that of its parts.
-fn judged(key: NodeRecord, places: &[u8], h: u64, t: u64, heres: &[u64], theres: &[u64]) -> Truth
+fn judged(key: NodeRecord, places: &[u64], h: u64, t: u64, heres: &[u64], theres: &[u64]) -> Truth
     ensures { λ r. ⌜ JudgedBits key (now (places .entry)) h t (now (heres .entry)) (now (theres .entry)) (r .here) (r .there) ⌝ }
 {
     let operator = key.word;
     if operator == ATOM {
-        return truth_of_place(place_of(places, wide(key.first)), h, t);
+        return truth_of_place(note(places, wide(key.first)), h, t);
     }
     let first = wide(key.first);
     let there_first = note(theres, first);
@@ -117,7 +107,7 @@ fn judged(key: NodeRecord, places: &[u8], h: u64, t: u64, heres: &[u64], theres:
 pub(crate) fn judge_listed(
     formulas: &[u16],
     list: &[u16],
-    places: &[u8],
+    places: &[u64],
     h: u64,
     t: u64,
     heres: &mut [u64],

@@ -109,7 +109,7 @@ noted-read ts table i h =
 -- ---- the formulas of a good body
 
 -- twice the same
-and-self : (x : Bool) → (x && x) ≡ x
+pub and-self : (x : Bool) → (x && x) ≡ x
 and-self true = refl
 and-self false = refl
 

@@ -1,73 +1,77 @@
+-- `alike::truths::judge_listed` meets its contract. The invariant of its loop: the formulas from k on are judged. Assumes nothing.
+use Prim.Native.Nat.{ℕ}
+use native.Mathlib.Omega.{arith}
+use mathlib.Core.List.{List}
+use mathlib.Core.Path.{_≡_, refl, sym, ap, ap₂, subst, _∙_}
+use lib.ListN.{length, set}
+use borrow.Author.Needs.{needs}
+use Rattle.alike.proofs.TruthBits.{JudgedFrom, judged-none, judged-next, judged-whole}
 use Rattle.alike.proofs.truths.judge_listed.Statement.{statement}
 use Rattle.alike.proofs.truths.judge_listed.Tie as tie
-use Rattle.alike.proofs.truths.judge_listed.Reads as reads
-use Rattle.alike.proofs.truths.judge_listed.Lts as lts
-use Rattle.alike.proofs.truths.judged.Reads as judged-reads
-use Rattle.known.proofs.index.put_note.Reads as put-note-reads
-use Rattle.tables.proofs.records.node.Reads as node-reads
-use Rattle.tables.proofs.records.wide.Reads as wide-reads
 
 abbrev Inv-loop : tie.InvT-loop
-Inv-loop formulas list places h t heres₀ theres₀ k₀ heres theres k = ?
+Inv-loop formulas list places h t heres₀ theres₀ k₀ heres theres k = JudgedFrom formulas list places h t heres₀ theres₀ heres theres k
 
 abbrev μ-loop : tie.MeasureT-loop
-μ-loop formulas list places h t heres₀ theres₀ k₀ heres theres k = ?
+μ-loop formulas list places h t heres₀ theres₀ k₀ heres theres k = k
 
--- src/truths.rt:138:5
 loop-holds : tie.Need-loop-holds Inv-loop μ-loop
-loop-holds c = ?
+loop-holds c = let args = c .before .before .before .before .before .args in judged-none (args .formulas .now) (args .list .now) (args .places .now) (args .h) (args .t) (args .heres .now) (args .theres .now)
 
--- src/truths.rt:139:9
 sub-k : tie.Need-sub-k Inv-loop μ-loop
-sub-k c = ?
+sub-k c = search needs
 
--- src/truths.rt:140:22
 mul-wide : tie.Need-mul-wide Inv-loop μ-loop
-mul-wide c = ?
+mul-wide c = search needs
 
--- src/truths.rt:140:22
 shared-slice-read-wide : tie.Need-shared-slice-read-wide Inv-loop μ-loop
-shared-slice-read-wide c = ?
+shared-slice-read-wide c = search needs
 
--- src/truths.rt:140:13
 wide-requires : tie.Need-wide-requires Inv-loop μ-loop
-wide-requires c κs = ?
+wide-requires c κs = search needs
 
--- src/truths.rt:141:28
 node-requires : tie.Need-node-requires Inv-loop μ-loop
-node-requires c κs = ?
+node-requires c κs = search needs
 
--- src/truths.rt:141:13
 judged-requires : tie.Need-judged-requires Inv-loop μ-loop
-judged-requires c κs = ?
+judged-requires c κs = search needs
 
--- src/truths.rt:142:9
 put-note-requires : tie.Need-put-note-requires Inv-loop μ-loop
-put-note-requires c κs = ?
+put-note-requires c κs = search needs
 
--- src/truths.rt:143:9
 put-note-requires-2 : tie.Need-put-note-requires-2 Inv-loop μ-loop
-put-note-requires-2 c κs = ?
+put-note-requires-2 c κs = search needs
 
--- src/truths.rt:138:5
 loop-less : tie.Need-loop-less Inv-loop μ-loop
-loop-less c = ?
+loop-less c = search needs
 
--- src/truths.rt:138:5
 loop-again : tie.Need-loop-again Inv-loop μ-loop
-loop-again c = ?
+loop-again c =
+    let second = c .before .before in
+    let first = second .before .before .before .before in
+    let judged = first .before .before in
+    let own = judged .before .before .before in
+    let index = own .before in
+    let test = index .before .before in
+    let turn = test .before in
+    let args = turn .before .before .before .before .before .before .args in
+    let truth = judged .judged in
+    judged-next (args .formulas .now) (args .list .now) (args .places .now) (args .h) (args .t) (args .heres .now) (args .theres .now)
+    (turn .loop .heres) (turn .loop .theres) (turn .loop .inv) (test .loop-test .taken) refl _ (index .wide .ensures) _ (own .node .ensures) _ _ (truth .ensures)
+    (first .put-note .ensures) (second .put-note2 .ensures)
 
--- src/truths.rt:123:1
 same-length : tie.Need-same-length Inv-loop μ-loop
-same-length c = ?
+same-length c = search needs
 
--- src/truths.rt:123:1
 same-length-2 : tie.Need-same-length-2 Inv-loop μ-loop
-same-length-2 c = ?
+same-length-2 c = search needs
 
--- src/truths.rt:123:1
 returns : tie.Need-returns Inv-loop μ-loop
-returns c = ?
+returns c =
+    let turn = c .before in
+    let args = turn .before .before .before .before .before .before .args in
+    judged-whole (args .formulas .now) (args .list .now) (args .places .now) (args .h) (args .t) (args .heres .now) (args .theres .now)
+    (turn .loop .inv) (search needs)
 
 pub judge-listed-spec : {M : Type 1} → statement M
 judge-listed-spec =

@@ -1,0 +1,107 @@
+-- `alike::survivors::still_alike` meets its contract: candidates filtered one by one. Assumes nothing.
+use Prim.Native.Nat.{ℕ, _^_, _<_}
+use native.Mathlib.Omega.{arith}
+use mathlib.Core.List.{List, _∷_}
+use mathlib.Core.Path.{_≡_, sym, ap, _∙_}
+use borrow.Author.Needs.{needs}
+use borrow.Author.Tests.{not-true, not-false}
+use lib.ListN.{length, getD}
+use Rattle.atomset.specs.AtomSet.{members}
+use Rattle.atomset.proofs.Members.{walk-ends, walk-goes-on}
+use Rattle.alike.specs.Survivors.{SameWord}
+use Rattle.alike.proofs.Remaining.{Filtering, filtering-starts, filtering-keeps, filtering-drops, filtering-ends}
+use Rattle.alike.proofs.survivors.still_alike.Statement.{statement}
+use Rattle.alike.proofs.survivors.still_alike.Tie as tie
+
+abbrev Inv-loop : tie.InvT-loop
+Inv-loop heres own side alive word kept₀ rest₀ kept rest = (kept < 2 ^ 64) × Filtering (λ c. SameWord heres own (getD side c 0)) alive kept rest
+
+abbrev μ-loop : tie.MeasureT-loop
+μ-loop heres own side alive word kept₀ rest₀ kept rest = length (members rest)
+
+-- the next candidate, and the rest
+walk : (c : tie.After-without-first Inv-loop μ-loop) → members (c .before .before .before .before .loop .rest) ≡ c .before .first .result ∷ members (c .without-first .result)
+walk c =
+    let picked = c .before in
+    walk-goes-on (picked .before .before .before .loop .rest) _ _ (sym (picked .before .before .is-empty .ensures) ∙ not-true _ (picked .before .if1 .taken))
+    (picked .first .ensures) (c .without-first .ensures)
+
+note-requires : tie.Need-note-requires Inv-loop μ-loop
+note-requires c κs = search needs
+
+loop-holds : tie.Need-loop-holds Inv-loop μ-loop
+loop-holds c = (search needs, filtering-starts (search needs))
+
+is-empty-requires : tie.Need-is-empty-requires Inv-loop μ-loop
+is-empty-requires c κs = search needs
+
+first-requires : tie.Need-first-requires Inv-loop μ-loop
+first-requires c κs = search needs
+
+without-first-requires : tie.Need-without-first-requires Inv-loop μ-loop
+without-first-requires c κs = search needs
+
+formula-at-requires : tie.Need-formula-at-requires Inv-loop μ-loop
+formula-at-requires c κs = search needs
+
+note-requires-2 : tie.Need-note-requires-2 Inv-loop μ-loop
+note-requires-2 c κs = search needs
+
+insert-requires : tie.Need-insert-requires Inv-loop μ-loop
+insert-requires c κs = search needs
+
+loop-less : tie.Need-loop-less Inv-loop μ-loop
+loop-less c = omega (arith, ap length (walk (c .before .before .before .before)))
+
+loop-again : tie.Need-loop-again Inv-loop μ-loop
+loop-again c =
+    let found = c .before .before in
+    let named = found .before in
+    let rest = named .before in
+    let turn = rest .before .before .before .before in
+    let args = turn .before .before .before .before .args in
+    let same : SameWord (args .heres .now) (args .own) (getD (args .side .now) (rest .before .first .result) 0) =
+    ap (λ (x : ℕ). getD (args .heres .now) x 0) (sym (named .formula-at .ensures))
+    ∙ sym (found .note2 .ensures)
+    ∙ c .before .if2 .taken
+    ∙ turn .before .note .ensures in
+    (search needs, filtering-keeps (turn .loop .inv .1) (search needs) (walk rest) (c .insert .ensures) same)
+
+loop-less-2 : tie.Need-loop-less-2 Inv-loop μ-loop
+loop-less-2 c = omega (arith, ap length (walk (c .before .before .before)))
+
+loop-again-2 : tie.Need-loop-again-2 Inv-loop μ-loop
+loop-again-2 c =
+    let found = c .before in
+    let named = found .before in
+    let rest = named .before in
+    let turn = rest .before .before .before .before in
+    let args = turn .before .before .before .before .args in
+    (turn .loop .inv .0,
+      filtering-drops (turn .loop .inv .1) (search needs) (walk rest) (λ same. c .if2 .left
+      (found .note2 .ensures ∙ ap (λ (x : ℕ). getD (args .heres .now) x 0) (named .formula-at .ensures) ∙ same ∙ sym (turn .before .note .ensures))))
+
+returns : tie.Need-returns Inv-loop μ-loop
+returns c =
+    let turn = c .before .before in
+    filtering-ends (turn .loop .inv .1) (walk-ends _ (sym (c .before .is-empty .ensures) ∙ not-false _ (c .if1 .left)))
+
+pub still-alike-spec : {M : Type 1} → statement M
+still-alike-spec =
+    tie.close
+    (tie.spec
+    Inv-loop
+    μ-loop
+    note-requires
+    loop-holds
+    is-empty-requires
+    first-requires
+    without-first-requires
+    formula-at-requires
+    note-requires-2
+    insert-requires
+    loop-less
+    loop-again
+    loop-less-2
+    loop-again-2
+    returns)
