@@ -10,7 +10,7 @@ use lib.Dec.{leb, ltb, lit<}
 use lib.ListN.{length, getD, take, drop, length-take, List·getD-eq-default}
 use borrow.Author.Tests.{ltb-true, ltb-false, leb-true}
 use Rattle.elk.specs.Rules.{Rule, rules, codeOf, wordOf, def}
-use Rattle.elk.proofs.Faithful.{at-code, agree-on-each, code-at}
+use Rattle.elk.proofs.RuleCodes.{at-code, agree-on-each, code-at}
 use Rattle.format.specs.Text.{Bytes, bytes, is, all, sameList}
 use Rattle.format.specs.Line.{ruleAmong, ruleOf}
 use Rattle.format.specs.Tables.{part, joinAll}
@@ -69,7 +69,7 @@ found-by field codes second before-last last placed e f g = rw (e, f, g) (found 
 -- ---- the word of a code
 
 -- bytes and starts that one computed test of all rules passes
-pub words-stand : (words starts : Bytes) → length words ≡ 180 → words ≡ joinAll (λ r. bytes (wordOf r)) rules → length starts ≡ length rules
+pub words-stand : (words starts : Bytes) → length words ≡ 184 → words ≡ joinAll (λ r. bytes (wordOf r)) rules → length starts ≡ length rules
     → map (λ r. wordIn words starts (codeOf r)) rules ≡ map (λ r. bytes (wordOf r)) rules → WordsStand words starts
 words-stand words starts whole end-to-end count each =
     record {

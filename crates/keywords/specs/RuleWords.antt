@@ -16,10 +16,10 @@ startIn words starts code = getD starts code (length words)
 abbrev pub wordIn : Bytes → Bytes → ℕ → Bytes
 wordIn words starts code = part words (startIn words starts code) (startIn words starts (code + 1) - startIn words starts code)
 
--- The words of the rules stand in these 180 bytes, end to end in the order of their codes, and each exactly from its start to the next
+-- The words of the rules stand in these 184 bytes, end to end in the order of their codes, and each exactly from its start to the next
 -- one, or to the end.
 pub record WordsStand (words starts : Bytes) : Type 0 where
-  pub whole : length words ≡ 180
+  pub whole : length words ≡ 184
   pub end-to-end : words ≡ joinAll (λ r. bytes (wordOf r)) rules
   pub count : length starts ≡ length rules
   pub each : (r : Rule) → wordIn words starts (codeOf r) ≡ bytes (wordOf r)

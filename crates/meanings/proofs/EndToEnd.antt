@@ -29,7 +29,7 @@ unfoldable pub all-phrases : Bytes
 all-phrases = phrases rules
 
 -- past the last rule lies the end of all phrases
-pub start-past : (code : ℕ) → 37 ≤ code → startOf code ≡ startOf 37
+pub start-past : (code : ℕ) → 38 ≤ code → startOf code ≡ startOf 38
 unfolding startOf
 start-past code h = ap (λ (rs : List Rule). length (phrases rs)) (take-all code rules h)
 
@@ -42,7 +42,7 @@ meaning-inside [] code h = absurd (omega arith)
 meaning-inside (r ∷ rs) zero h = refl
 meaning-inside (r ∷ rs) (suc code) h = meaning-inside rs code (omega arith)
 
-module _ (code : ℕ) (h : code < 37) where
+module _ (code : ℕ) (h : code < 38) where
   phrase : Bytes
   phrase = bytes (meaningOf (getD rules code def))
 
@@ -70,12 +70,12 @@ module _ (code : ℕ) (h : code < 37) where
 
 -- each phrase stands from its start to the next one's, and there is none past the last
 pub phrase-of : (code : ℕ) → part all-phrases (startOf code) (startOf (code + 1) - startOf code) ≡ meaningAt code
-phrase-of code = by (ltb code 37) refl
+phrase-of code = by (ltb code 38) refl
   where
-    by : (t : Bool) → ltb code 37 ≡ t → part all-phrases (startOf code) (startOf (code + 1) - startOf code) ≡ meaningAt code
-    by true e = inside code (ltb-true code 37 e)
+    by : (t : Bool) → ltb code 38 ≡ t → part all-phrases (startOf code) (startOf (code + 1) - startOf code) ≡ meaningAt code
+    by true e = inside code (ltb-true code 38 e)
     by false e =
-        let past = ltb-false code 37 e in
+        let past = ltb-false code 38 e in
         let none : startOf (code + 1) - startOf code ≡ 0 = omega (arith, start-past code past, start-past (code + 1) (omega (arith, past))) in
         ap (part all-phrases (startOf code)) none ∙ part-none all-phrases (startOf code) ∙ sym (meaning-past code past)
 

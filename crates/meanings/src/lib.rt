@@ -1,4 +1,4 @@
-// What each of the 37 rules says, in English: the phrases end to end, in the order of the rules' codes, and where each starts.
+// What each of the 38 rules says, in English: the phrases end to end, in the order of the rules' codes, and where each starts.
 ghost use mathlib.Core.Path.{_≡_};
 ghost use Prim.Native.Nat.{_-_};
 ghost use Rattle.format.specs.Tables.{part};
@@ -52,7 +52,8 @@ fn start_of(rule: usize) -> usize
         34 => 2850, // xnorl
         35 => 2936, // xnorr1
         36 => 3035, // xnorr2
-        _ => 3135,
+        37 => 3135, // swap
+        _ => 3213,
     }
 }
 
@@ -110,6 +111,7 @@ pub fn put_meaning(rule: u16, out: &mut [u8], so_far: Written) -> Written
         a negated disjunction holds in the counter-case, as the negations of both its parts do\
         a negated disjunction does not hold in the counter-case, as the negation of its first part does not\
         a negated disjunction does not hold in the counter-case, as the negation of its second part does not\
+        a formula of what is given is put in place of one that holds in the same cases\
         ";
     let at = wide(rule);
     put(between(all, start_of(at), start_of(at + 1)), out, so_far)

@@ -1,5 +1,5 @@
--- A row and its premises as their sides show them: what an instance of the row's rule is, over the sides that were fetched.
-use Prim.Native.Nat.{ℕ, _%_, _<_}
+-- A row and its premises as their sides show them: what is said of the row's rule, over the sides that were fetched.
+use Prim.Native.Nat.{ℕ, _%_, _≤_, _<_}
 use native.Mathlib.Omega.{arith}
 use mathlib.Core.Bool.{true, false, not, true≢false, false≢true}
 use mathlib.Core.List.{List, [], _∷_, map, List·Memᴰ·head}
@@ -10,12 +10,11 @@ use lib.ListN.{length, getD, take}
 use Rattle.equilibrium.specs.Formula.{Formula}
 use Rattle.elk.specs.Sequent.{Kind, Sequent}
 use Rattle.elk.specs.Rules.{Added, Entry, entry, kindOf, hasPrincipal, premiseKinds}
-use Rattle.elk.specs.Instance.{InstanceOf}
 use Rattle.format.specs.Text.{strictlyRising, _<$>_}
 use Rattle.format.specs.File.{Node, Row, Body, decodedAt, sequentOf}
-use Rattle.format.specs.Tables.{absent, Side, fetched}
+use Rattle.format.specs.Tables.{absent, Side, fetched, mostOnSide}
 use Rattle.format.specs.Tests.{present, badSide, unknownFormula, listed, premisesOf, wrongPremises}
-use Rattle.format.specs.Passing.{RowInstance, RightPremises}
+use Rattle.format.specs.Passing.{RightPremises}
 use Rattle.format.proofs.Booleans.{or-false, not-false}
 use Rattle.format.proofs.GoodBodies.{in-getD, HeldRow, good-held}
 use Rattle.format.proofs.Formulas.{known-earlier}
@@ -27,6 +26,7 @@ use Rattle.tables.proofs.Encoded.{side-held}
 use Rattle.schema.specs.SchemaRows.{Sides, _⊣_, sequentWith}
 use Rattle.rows.specs.Judging.{Judging}
 use Rattle.drafts.specs.declared.Draft.{Draft}
+use Rattle.rows.proofs.EarlyTests.{short-side}
 use Rattle.rows.proofs.PremiseKinds.{premiseRow, premise-earlier, counted}
 use Rattle.drafts.specs.Drafts.{principalNumber}
 
@@ -103,6 +103,9 @@ module _ {b : Body} {q : Row} {formulas notes rows leftPool rightPool left right
     right-fetched =
         subst (Sided b) (sym (premise-side Side.right)) (record { known = premise-held .right-known; rising = good-rises _ (premise-held .right-good) })
 
+    pub left-short : length (fetched rows leftPool rightPool Side.left i) ≤ mostOnSide
+    left-short = subst (λ (l : List ℕ). length l ≤ mostOnSide) (sym (premise-side Side.left)) (short-side _ (premise-held .left-good))
+
   module _ {e : Entry} (he : entry (q .rule) ≡ e) where
     pub premise-count : length (q .premises) ≡ length (premiseKinds e)
     premise-count = sym (counted b q) ∙ ap length (asks .premises ∙ ap premiseKinds he)
@@ -114,18 +117,20 @@ module _ {b : Body} {q : Row} {formulas notes rows leftPool rightPool left right
     pub principal-absent : hasPrincipal e ≡ false → q .principal ≡ none
     principal-absent h = none-there (q .principal) (asks .principal ∙ ap hasPrincipal he ∙ h)
 
-    -- what an instance of the row's rule is, by the sides
-    pub instance-seen : (o : Option Formula) (one two : Sides) → length (premiseKinds e) < 3 → (decodedAt (b .nodes) <$> q .principal) ≡ o
+    -- what is said of the row's rule and sequents, by the sides
+    pub row-seen : (P : Entry → Option Formula → List Sequent → Sequent → Type 0) (o : Option Formula) (one two : Sides)
+        → length (premiseKinds e) < 3 → (decodedAt (b .nodes) <$> q .principal) ≡ o
         → (0 < length (q .premises) → one ≡ (premiseRow b q 0 .left ⊣ premiseRow b q 0 .right))
         → (1 < length (q .premises) → two ≡ (premiseRow b q 1 .left ⊣ premiseRow b q 1 .right))
-        → RowInstance b q ↔ InstanceOf e o (seen (b .nodes) (premiseKinds e) one two) (sequentWith (b .nodes) (kindOf e) (left ⊣ right))
-    instance-seen o one two few ho f g = (
-      λ i. subst (λ (s : Sequent). InstanceOf e o ps s) conclusion
-          (subst (λ (l : List Sequent). InstanceOf e o l s₀) premises
-          (subst (λ p. InstanceOf e p (premisesOf b q) s₀) ho (subst (λ x. InstanceOf x (decodedAt (b .nodes) <$> q .principal) (premisesOf b q) s₀) he i))),
-      λ i. subst (λ x. InstanceOf x (decodedAt (b .nodes) <$> q .principal) (premisesOf b q) s₀) (sym he)
-          (subst (λ p. InstanceOf e p (premisesOf b q) s₀) (sym ho)
-          (subst (λ (l : List Sequent). InstanceOf e o l s₀) (sym premises) (subst (λ (s : Sequent). InstanceOf e o ps s) (sym conclusion) i))),
+        → P (entry (q .rule)) (decodedAt (b .nodes) <$> q .principal) (premisesOf b q) (sequentOf (b .nodes) q)
+        ↔ P e o (seen (b .nodes) (premiseKinds e) one two) (sequentWith (b .nodes) (kindOf e) (left ⊣ right))
+    row-seen P o one two few ho f g = (
+      λ i. subst (λ (s : Sequent). P e o ps s) conclusion
+          (subst (λ (l : List Sequent). P e o l s₀) premises
+          (subst (λ p. P e p (premisesOf b q) s₀) ho (subst (λ x. P x (decodedAt (b .nodes) <$> q .principal) (premisesOf b q) s₀) he i))),
+      λ i. subst (λ x. P x (decodedAt (b .nodes) <$> q .principal) (premisesOf b q) s₀) (sym he)
+          (subst (λ p. P e p (premisesOf b q) s₀) (sym ho)
+          (subst (λ (l : List Sequent). P e o l s₀) (sym premises) (subst (λ (s : Sequent). P e o ps s) (sym conclusion) i))),
     )
       where
         s₀ : Sequent

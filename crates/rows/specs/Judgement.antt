@@ -1,4 +1,5 @@
--- The judgement of one row (paper 01, numbers 5 to 11), by tables that begin with a good body: what stands after it does not matter.
+-- The judgement of one row (numbers 5 to 11 of paper 01, and 18 of 02, M-104), by tables that begin with a good body: what stands after it
+-- does not matter.
 use Prim.Native.Nat.{ℕ}
 use mathlib.Core.Path.{_≡_}
 use mathlib.Core.List.{List, [], _∷_, _++_}
@@ -31,7 +32,7 @@ earlyTests b r = roomTests b r ++ referenceTests b r ++ sideTests (r .left) (r .
 
 -- The number of a row. For every good body that the tables begin with it is the first that applies, and the row passes exactly
 -- when it passes the tests before its rule and is an instance. In any tables 5, 7 and 9 are given by the draft and the counts;
--- where the tables hold no good body, or the draft is not a row's, which of 0, 10 and 11 comes after these is free.
+-- where the tables hold no good body, or the draft is not a row's, which of 0, 10, 18 and 11 comes after these is free.
 pub record RowNumbered (d : Draft) (c : Counts) (left right formulas notes rows leftPool rightPool : List ℕ) (number : ℕ) : Type 0 where
   pub given :
       (b : Body) (r : Row) → Ground b c formulas notes rows leftPool rightPool → Drafted r d left right
@@ -40,4 +41,4 @@ pub record RowNumbered (d : Draft) (c : Counts) (left right formulas notes rows 
       (b : Body) (r : Row) → Ground b c formulas notes rows leftPool rightPool → Drafted r d left right
       → (number ≡ 0) ↔ ((first (earlyTests b r) ≡ none) × RowInstance b r)
   pub early : (n : ℕ) → first (earlyOf d c) ≡ some n → number ≡ n
-  pub late : first (earlyOf d c) ≡ none → number ∈ 0 ∷ 10 ∷ 11 ∷ []
+  pub late : first (earlyOf d c) ≡ none → number ∈ 0 ∷ 10 ∷ 18 ∷ 11 ∷ []

@@ -2,21 +2,21 @@
 use Prim.Native.Nat.{ℕ, _<_, min}
 use mathlib.Core.Path.{_≡_}
 use mathlib.Core.Bool.{false}
-use mathlib.Core.List.{List}
-use mathlib.Core.Option.{Option, none, some}
+use mathlib.Core.List.{List, [], _∷_}
+use mathlib.Core.Option.{some}
 use lib.ListN.{length, getD}
 use Rattle.equilibrium.specs.Meaning.{_∈_}
-use Rattle.elk.specs.Rules.{codeOf, Entry, schema, default, cut, unstable, initial}
+use Rattle.elk.specs.Rules.{codeOf, Entry, schema, default, cut, unstable, initial, exchange}
 use Rattle.format.specs.File.{Row, Body}
 use Rattle.format.specs.Tables.{absent}
-use Rattle.format.specs.Tests.{unknownFormula, listed}
+use Rattle.format.specs.Tests.{first, unknownFormula, listed, wrongPremises, ruleTests}
 use Rattle.text.specs.Numbers.{principalAs}
 use Rattle.text.specs.Lists.{mostCounted}
 use Rattle.text.specs.declared.numbers.Optional.{Optional}
 use Rattle.tables.specs.Holding.{HoldsRows, Formulas, Sided}
 use Rattle.known.specs.Known.{AtomNotes}
-use Rattle.rows.specs.declared.Verdict.{Verdict}
 use Rattle.drafts.specs.declared.Draft.{Draft}
+use Rattle.early.specs.Early.{numbered}
 
 pub record Judging (b : Body) (q : Row) (formulas notes rows leftPool rightPool : List ℕ) (d : Draft) (left right : List ℕ) : Type 0 where
   pub formulas-held : Formulas b formulas
@@ -40,16 +40,18 @@ namedOf Optional.Absent = 0
 namedOf (Optional.Value i) = 1
 namedOf Optional.Bad = 0
 
--- the rules that have premises, and `same`, which is of the table
+-- the rules that have premises, but for `swap`, and `same`, which is of the table
 abbrev pub Premised : Entry → Type 0
 Premised (schema t) = Unit {0}
 Premised default = ⊥
 Premised cut = Unit {0}
 Premised unstable = Unit {0}
 Premised initial = ⊥
+Premised exchange = ⊥
 
--- 01's number of each answer, none where the row passes
-abbrev pub refusalOf : Verdict → Option ℕ
-refusalOf Verdict.Passes = none
-refusalOf Verdict.WrongPremises = some 10
-refusalOf Verdict.WrongStep = some 11
+-- The number of a row that passed those before its rule, and 10.
+pub record StepNumbered (formulas notes rows leftPool rightPool : List ℕ) (d : Draft) (left right : List ℕ) (number : ℕ) : Type 0 where
+  pub given :
+      (b : Body) (q : Row) → Judging b q formulas notes rows leftPool rightPool d left right → wrongPremises b q ≡ false
+      → numbered number ≡ first (ruleTests b q)
+  pub one-of : number ∈ 0 ∷ 18 ∷ 11 ∷ []

@@ -1,4 +1,4 @@
-// Whether a row is an instance of its rule (number 11). The sides of its premises are fetched once, and handed to the rule.
+// Whether a row is an instance of its rule (numbers 18 and 11). The sides of its premises are fetched once, and handed to the rule.
 ghost use mathlib.Core.Path.{_≡_};
 ghost use mathlib.Core.Bool.{false};
 ghost use Rattle.format.specs.File.{Row, Body};
@@ -7,7 +7,7 @@ ghost use Rattle.format.specs.Passing.{RowInstance};
 ghost use Rattle.elk.specs.Rules.{entry};
 ghost use Rattle.rules.specs.RuleTable.{stepNumber};
 ghost use Rattle.sides.specs.Deciding.{Decides};
-ghost use Rattle.rows.specs.Judging.{Judging, Premised};
+ghost use Rattle.rows.specs.Judging.{Judging, Premised, StepNumbered};
 use cut::cut_step;
 use drafts::Draft;
 use drafts::principal_number;
@@ -16,6 +16,7 @@ use literals::initial_step;
 use rules::STEP;
 use rules::rule_number;
 use schema::schema_step;
+use swap::swap_number;
 use tables::fetch;
 use tables::records::wide;
 use unstable::unstable_step;
@@ -29,7 +30,9 @@ const UNSTABLE: u8 = 12;
 
 const INITIAL: u8 = 13;
 
-// Whether a row of a rule that has premises is an instance.
+const EXCHANGE: u8 = 14;
+
+// Whether a row of a rule that has premises is an instance, where it is not `swap`.
 fn premised_step<'a>(
     formulas: &[u16],
     notes: &[u64],
@@ -91,24 +94,24 @@ fn premised_step<'a>(
     )
 }
 
-// Whether the row is an instance of its rule.
-pub(crate) fn step_holds<'a>(
+// Whether the row is an instance of its rule, where that is not `swap`.
+fn step_holds<'a>(
     formulas: &[u16],
     notes: &[u64],
     rows: &[u16],
     left: &'a [u16],
     right: &'a [u16],
     draft: Draft,
+    step: u8,
     antecedent: &[u16],
     succedent: &[u16],
 ) -> bool
     ensures { λ r. ⌜ ((b : Body) (q : Row)
         → Judging b q (now (formulas .entry)) (now (notes .entry)) (now (rows .entry)) (now (left .entry)) (now (right .entry)) draft
         (now (antecedent .entry)) (now (succedent .entry))
-        → wrongPremises b q ≡ false → Decides (RowInstance b q) r) ⌝ }
+        → wrongPremises b q ≡ false → step ≡ stepNumber (entry (q .rule)) → (step ≡ 14 → ⊥) → Decides (RowInstance b q) r) ⌝ }
 {
     let principal = draft.principal;
-    let step = rule_number(draft.rule, STEP);
     if step == DEFAULT {
         return default_step(formulas, principal_number(principal), antecedent, succedent);
     }
@@ -126,4 +129,48 @@ pub(crate) fn step_holds<'a>(
         antecedent,
         succedent,
     )
+}
+
+// The number of a row whose premises are right: 18 or 11, 0 if it is an instance of its rule. Only `swap` can earn 18.
+pub(crate) fn step_number<'a>(
+    formulas: &[u16],
+    notes: &[u64],
+    rows: &[u16],
+    left: &'a [u16],
+    right: &'a [u16],
+    draft: Draft,
+    antecedent: &[u16],
+    succedent: &[u16],
+) -> u32
+    ensures { λ r. ⌜ StepNumbered (now (formulas .entry)) (now (notes .entry)) (now (rows .entry)) (now (left .entry)) (now (right .entry)) draft
+        (now (antecedent .entry)) (now (succedent .entry)) r ⌝ }
+{
+    let step = rule_number(draft.rule, STEP);
+    if step == EXCHANGE {
+        let principal = draft.principal;
+        let first = wide(draft.first);
+        return swap_number(
+            formulas,
+            notes,
+            principal_number(principal),
+            antecedent,
+            succedent,
+            fetch(rows, left, right, true, first),
+            fetch(rows, left, right, false, first),
+        );
+    }
+    if step_holds(
+        formulas,
+        notes,
+        rows,
+        left,
+        right,
+        draft,
+        step,
+        antecedent,
+        succedent,
+    ) {
+        return 0;
+    }
+    11
 }

@@ -14,7 +14,7 @@ use Rattle.equilibrium.proofs.Sets.{dec-all, from-yes}
 use Rattle.format.specs.Text.{all}
 use Rattle.format.proofs.Booleans.{and-true}
 use Rattle.elk.specs.Rules.{Rule, rules, codeOf, entry}
-use Rattle.elk.proofs.Faithful.{at-code, every-rule}
+use Rattle.elk.proofs.RuleCodes.{at-code, every-rule}
 use Rattle.rules.specs.RuleTable.{stepNumber, ruleNumbers, packedFrom, packedRules, countOfNumbers, ruleNumber}
 
 -- the numbers of a code: those of a rule, or none
@@ -61,9 +61,9 @@ past-all zero n none = omega arith
 past-all (suc k) n none = let before = past-all k n (none .0) in let other = none .1 in omega arith
 
 -- by one computed test of all rules
-pub code-below : (s : Rule) → codeOf s < 37
+pub code-below : (s : Rule) → codeOf s < 38
 unfolding dec-all decLt
-code-below s = from-yes (dec-all (λ r. decLt (codeOf r) 37) rules) tt s (every-rule s)
+code-below s = from-yes (dec-all (λ r. decLt (codeOf r) 38) rules) tt s (every-rule s)
 
 -- each is an octal digit
 abbrev allOctal : List ℕ → Bool

@@ -28,6 +28,7 @@ use Rattle.elk.specs.Rules.{
   cut,
   unstable,
   initial,
+  exchange,
   entry,
   kindOf,
   hasPrincipal,
@@ -48,13 +49,14 @@ formNumber negated-conjunction = 7
 formNumber negated-disjunction = 8
 formNumber negated-implication = 9
 
--- how the rule is judged: by its form in the table, or as one of the four that are written out
+-- how the rule is judged: by its form in the table, or as one of the five that are written out
 abbrev pub stepNumber : Entry → ℕ
 stepNumber (schema t) = formNumber (t .form)
 stepNumber default = 10
 stepNumber cut = 11
 stepNumber unstable = 12
 stepNumber initial = 13
+stepNumber exchange = 14
 
 -- 0 for ELK, 1 for refutation
 abbrev pub kindNumber : Kind → ℕ
@@ -103,6 +105,7 @@ addedSides default = replicate 6 []
 addedSides cut = replicate 6 []
 addedSides unstable = replicate 6 []
 addedSides initial = replicate 6 []
+addedSides exchange = replicate 6 []
 
 -- the numbers of an entry of the table, and of a rule
 abbrev pub entryNumbers : Entry → List ℕ

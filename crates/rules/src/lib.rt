@@ -1,4 +1,4 @@
-// The rule table of the calculus as numbers: how each of the 37 rules is judged, what number 10 asks of its rows, and what it
+// The rule table of the calculus as numbers: how each of the 38 rules is judged, what number 10 asks of its rows, and what it
 // adds to L and R.
 ghost use mathlib.Core.Path.{_≡_};
 ghost use lib.ListN.{getD};
@@ -28,7 +28,7 @@ const LAST: usize = NUMBERS - 1;
 
 // The numbers of a rule in their order, as octal digits, of which the first number has two:
 // - how it is judged: by the form of its principal formula (0 #, 1 any, 2 ~, 3 &, 4 |, 5 ->, 6 ~~, 7 ~&, 10 ~|, 11 ~->), or as
-//   one that is written out (12 def, 13 rcut, 14 unst, 15 xini);
+//   one that is written out (12 def, 13 rcut, 14 unst, 15 xini, 16 swap);
 // - its kind (0 ELK, 1 refutation), a principal formula or none (1, 0), the count of its premises, and their kinds (2 where
 //   there is none);
 // - what is added to each side (1 the principal formula, 2 A, 3 B, 4 ~A, 5 ~B, 0 nothing).
@@ -74,6 +74,7 @@ fn packed(rule: u16) -> u64
         34 => 0o10_11112_10_00_45_00_00_00, // xnorl
         35 => 0o10_11112_00_10_00_40_00_00, // xnorr1
         36 => 0o10_11112_00_10_00_50_00_00, // xnorr2
+        37 => 0o16_01102_00_00_00_00_00_00, // swap
         _ => 0,
     }
 }

@@ -15,7 +15,7 @@ use Rattle.elk.specs.Rules.{Rule, rules, Part, Added, Schema, schema, Entry, en
 use Rattle.elk.specs.Instance.{SchemaInstance}
 use Rattle.elk.specs.CommonSets.{Side, Shared, sides}
 use Rattle.elk.proofs.Entries.{Counted, lefts, rights, SchemaTest, schema-iff}
-use Rattle.elk.proofs.Faithful.{every-rule}
+use Rattle.elk.proofs.RuleCodes.{every-rule}
 use Rattle.format.specs.File.{Node, Body, decodedAt, decoded}
 use Rattle.format.specs.Tests.{unknownFormula}
 use Rattle.format.proofs.GoodBodies.{Held, good-held}

@@ -15,7 +15,7 @@ use Rattle.equilibrium.specs.Meaning.{_∈_}
 use Rattle.equilibrium.proofs.Sets.{dec-and, dec-all, from-yes}
 use Rattle.elk.specs.Rules.{Rule, rules, codeOf, Part, entry}
 use Rattle.elk.specs.Instance.{meant}
-use Rattle.elk.proofs.Faithful.{every-rule}
+use Rattle.elk.proofs.RuleCodes.{every-rule}
 use Rattle.format.specs.File.{Body, decodedAt, decoded}
 use Rattle.format.specs.Tests.{notEarlier, unknownFormula}
 use Rattle.format.proofs.Booleans.{or-false}

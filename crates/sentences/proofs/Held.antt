@@ -26,7 +26,7 @@ use Rattle.equilibrium.specs.Meaning.{_∈_}
 use Rattle.equilibrium.proofs.Sets.{dec-all, from-yes}
 use Rattle.elk.specs.Sequent.{Kind, elk, refutation, Sequent}
 use Rattle.elk.specs.Rules.{Rule, rules, def, codeOf, entry, kindOf, premiseKinds}
-use Rattle.elk.proofs.Faithful.{every-rule}
+use Rattle.elk.proofs.RuleCodes.{every-rule}
 use Rattle.format.specs.Text.{Bytes, bytes, any, _<$>_}
 use Rattle.format.specs.File.{Row, Name, Body, File}
 use Rattle.format.specs.Tables.{Side, absent, orAbsent, joinAll, nameRecord, fetched}

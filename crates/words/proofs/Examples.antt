@@ -3,7 +3,7 @@ use mathlib.Core.Path.{_≡_, refl}
 use mathlib.Core.Bool.{false}
 use mathlib.Core.List.{List, [], _∷_}
 use mathlib.Core.Option.{some}
-use Rattle.elk.specs.Rules.{Rule, def, same, notl, notr, impl, wr, bot, xandr1, xandr2, ximpl2, ximpl3, xini}
+use Rattle.elk.specs.Rules.{Rule, def, same, andl, notl, notr, impl, wr, bot, xandr1, xandr2, ximpl2, ximpl3, xini, swap}
 use Rattle.format.specs.Text.{bytes, sameList, any}
 use Rattle.format.specs.File.{formulas}
 use Rattle.format.specs.Written.{digits, decimal}
@@ -42,6 +42,10 @@ p = atom (bytes "p")
 abbrev rightRow : Rule → Named → Told
 rightRow rule A = record { rule = rule; principal = some A; premises = 0 ∷ []; left = p ∷ []; right = A ∷ [] }
 
+-- and one whose principal formula is on the left
+abbrev leftRow : Rule → Named → Told
+leftRow rule A = record { rule = rule; principal = some A; premises = 0 ∷ []; left = A ∷ []; right = p ∷ [] }
+
 -- a row of refutation
 pub refuted-words : sentence 1 (rightRow xandr1 (conj p p))
     ≡ joined (
@@ -57,14 +61,15 @@ pub record Pair : Type 0 where
   pub one : Told
   pub other : Told
 
--- rows that agree in all but the rule: `wr` and `bot` on falsum, `xandr1` and `xandr2` on A and A, `ximpl2` and `ximpl3` on A -> ~A, and
--- an ELK row with a row of refutation
+-- rows that agree in all but the rule: `wr` and `bot` on falsum, `xandr1` and `xandr2` on A and A, `ximpl2` and `ximpl3` on A -> ~A, an ELK
+-- row with a row of refutation, and `andl` and `swap` on A and A
 abbrev pub pairs : List Pair
 pairs =
     record { one = rightRow wr falsum; other = rightRow bot falsum }
     ∷ record { one = rightRow xandr1 (conj p p); other = rightRow xandr2 (conj p p) }
     ∷ record { one = rightRow ximpl2 (imp p (neg p)); other = rightRow ximpl3 (imp p (neg p)) }
     ∷ record { one = rightRow same p; other = rightRow xini p }
+    ∷ record { one = leftRow andl (conj p p); other = leftRow swap (conj p p) }
     ∷ []
 
 pub pairs-differ : any (λ x. sameList (sentence 0 (x .one)) (sentence 0 (x .other))) pairs ≡ false

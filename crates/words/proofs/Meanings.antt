@@ -7,7 +7,7 @@ use mathlib.Core.List.{List, [], _∷_, _++_, map, append-cancel-left}
 use lib.Dec.{eqb}
 use lib.ListN.{List·getD-eq-default}
 use Rattle.elk.specs.Rules.{Rule, rules, codeOf}
-use Rattle.elk.proofs.Faithful.{at-code, agree-on-each, every-rule, rule-at-code}
+use Rattle.elk.proofs.RuleCodes.{at-code, agree-on-each, every-rule, rule-at-code}
 use Rattle.format.specs.Text.{Bytes, bytes, any, is, sameList}
 use Rattle.format.proofs.Booleans.{any-false}
 use Rattle.words.specs.Meanings.{meaningOf, meaningAt}
@@ -18,7 +18,7 @@ unfolding meaningAt
 meaning-at r = at-code (λ q. bytes (meaningOf q)) [] r
 
 -- no rule has a code past the table
-pub meaning-past : (code : ℕ) → 37 ≤ code → meaningAt code ≡ []
+pub meaning-past : (code : ℕ) → 38 ≤ code → meaningAt code ≡ []
 unfolding meaningAt
 meaning-past code past = List·getD-eq-default (map (λ q. bytes (meaningOf q)) rules) [] past
 

@@ -1,4 +1,4 @@
--- What each rule says, in English: 37 fixed phrases. In an ELK row some formulas are given, and in every equilibrium model at
+-- What each rule says, in English: 38 fixed phrases. In an ELK row some formulas are given, and in every equilibrium model at
 -- least one of the alternatives holds. In a row of refutation there is a counter-case, in which some formulas hold and others do not.
 use Prim.Native.Nat.{ℕ}
 use Prim.Native.String.{String}
@@ -6,7 +6,7 @@ use mathlib.Core.List.{[], map}
 use lib.ListN.{getD}
 use Rattle.elk.specs.Rules.{Rule, rules, def, same, andl, andr, wr, bot, orr, orl, notl, impr, impl, notr, rcut, unst}
 use Rattle.elk.specs.Rules.{xini, xnnl, xnnr, xandl, xandr1, xandr2, xorr, xorl1, xorl2}
-use Rattle.elk.specs.Rules.{ximpl1, ximpl2, ximpl3, ximpr1, ximpr2, xnimpl, xnimpr1, xnimpr2, xnandl1, xnandl2, xnandr, xnorl, xnorr1, xnorr2}
+use Rattle.elk.specs.Rules.{ximpl1, ximpl2, ximpl3, ximpr1, ximpr2, xnimpl, xnimpr1, xnimpr2, xnandl1, xnandl2, xnandr, xnorl, xnorr1, xnorr2, swap}
 use Rattle.format.specs.Text.{Bytes, bytes}
 
 -- no phrase holds a semicolon, and no two rules share one
@@ -48,6 +48,7 @@ meaningOf xnandr = "a negated conjunction does not hold in the counter-case, as 
 meaningOf xnorl = "a negated disjunction holds in the counter-case, as the negations of both its parts do"
 meaningOf xnorr1 = "a negated disjunction does not hold in the counter-case, as the negation of its first part does not"
 meaningOf xnorr2 = "a negated disjunction does not hold in the counter-case, as the negation of its second part does not"
+meaningOf swap = "a formula of what is given is put in place of one that holds in the same cases"
 
 -- the phrase of a rule's code
 unfoldable pub meaningAt : ℕ → Bytes

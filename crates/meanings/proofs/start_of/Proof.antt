@@ -157,7 +157,11 @@ returns-37 c = sym (ap startOf (c .match .keys37))
 
 returns-38 : tie.Need-returns-38
 unfolding startOf meaningOf
-returns-38 c = sym (start-past (c .before .args .rule) (past-all 37 (c .before .args .rule) (c .match .rest)))
+returns-38 c = sym (ap startOf (c .match .keys38))
+
+returns-39 : tie.Need-returns-39
+unfolding startOf meaningOf
+returns-39 c = sym (start-past (c .before .args .rule) (past-all 38 (c .before .args .rule) (c .match .rest)))
 
 pub start-of-spec : {M : Type 1} → statement M
 start-of-spec =
@@ -200,4 +204,5 @@ start-of-spec =
     returns-35
     returns-36
     returns-37
-    returns-38)
+    returns-38
+    returns-39)

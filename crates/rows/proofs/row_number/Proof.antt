@@ -1,6 +1,7 @@
 -- `rows::row_number` meets its contract. Assumes nothing.
+use mathlib.Core.Path.{sym, _∙_}
 use borrow.Author.Needs.{needs}
-use Rattle.rows.proofs.Numbering.{early-numbered, late-fronted}
+use Rattle.rows.proofs.Numbering.{early-numbered, ten-numbered, step-numbered}
 use Rattle.rows.proofs.row_number.Statement.{statement}
 use Rattle.rows.proofs.row_number.Tie as tie
 
@@ -10,50 +11,35 @@ early-number-requires c κs = search needs
 returns : tie.Need-returns
 returns c = early-numbered _ _ _ _ _ _ _ _ _ _ (c .before .early-number .ensures) (c .if1 .taken)
 
+wrong-premises-requires : tie.Need-wrong-premises-requires
+wrong-premises-requires c κs = search needs
+
+returns-2 : tie.Need-returns-2
+returns-2 c =
+    let asked = c .before in
+    let passed = asked .before in
+    ten-numbered _ _ _ _ _ _ _ _ _ _ (passed .before .early-number .ensures) (passed .if1 .left)
+    (λ b r x y j. sym (c .if2 .taken) ∙ asked .wrong-premises .ensures b r _ _ _ _ _ _ j)
+
 front-requires : tie.Need-front-requires
 front-requires c κs = search needs
 
 front-requires-2 : tie.Need-front-requires-2
 front-requires-2 c κs = search needs
 
-judge-row-requires : tie.Need-judge-row-requires
-judge-row-requires c κs = search needs
-
-enum-told : tie.Need-enum-told
-enum-told c = search needs
-
-enum-told-2 : tie.Need-enum-told-2
-enum-told-2 c = search needs
-
-enum-told-3 : tie.Need-enum-told-3
-enum-told-3 c = search needs
-
-returns-2 : tie.Need-returns-2
-returns-2 c =
-    let judged = c .before .before in
-    let right = judged .before in
-    let left = right .before in
-    let passed = left .before .before .before in
-    late-fronted _ _ _ _ _ _ _ _ _ _ (passed .before .early-number .ensures) (passed .if1 .left) (left .front .ensures) (right .front2 .ensures) _
-    (c .enum-told .given .1) (judged .judge-row .ensures)
+step-number-requires : tie.Need-step-number-requires
+step-number-requires c κs = search needs
 
 returns-3 : tie.Need-returns-3
 returns-3 c =
-    let judged = c .before .before in
-    let right = judged .before in
+    let right = c .before in
     let left = right .before in
-    let passed = left .before .before .before in
-    late-fronted _ _ _ _ _ _ _ _ _ _ (passed .before .early-number .ensures) (passed .if1 .left) (left .front .ensures) (right .front2 .ensures) _
-    (c .enum-told2 .given .1) (judged .judge-row .ensures)
-
-returns-4 : tie.Need-returns-4
-returns-4 c =
-    let judged = c .before .before in
-    let right = judged .before in
-    let left = right .before in
-    let passed = left .before .before .before in
-    late-fronted _ _ _ _ _ _ _ _ _ _ (passed .before .early-number .ensures) (passed .if1 .left) (left .front .ensures) (right .front2 .ensures) _
-    (c .enum-told3 .given .1) (judged .judge-row .ensures)
+    let ten = left .before .before .before in
+    let asked = ten .before in
+    let passed = asked .before in
+    step-numbered _ _ _ _ _ _ _ _ _ _ (passed .before .early-number .ensures) (passed .if1 .left)
+    (λ b r x y j. sym (ten .if2 .left) ∙ asked .wrong-premises .ensures b r _ _ _ _ _ _ j) (left .front .ensures) (right .front2 .ensures) _
+    (c .step-number .ensures)
 
 pub row-number-spec : {M : Type 1} → statement M
 row-number-spec =
@@ -61,12 +47,9 @@ row-number-spec =
     (tie.spec
     early-number-requires
     returns
+    wrong-premises-requires
+    returns-2
     front-requires
     front-requires-2
-    judge-row-requires
-    enum-told
-    enum-told-2
-    enum-told-3
-    returns-2
-    returns-3
-    returns-4)
+    step-number-requires
+    returns-3)

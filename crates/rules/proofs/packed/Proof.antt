@@ -119,7 +119,10 @@ returns-37 : tie.Need-returns-37
 returns-37 c = search needs
 
 returns-38 : tie.Need-returns-38
-returns-38 c = sym (List·getD-eq-default packedRules 0 (past-all 37 (c .before .args .rule) (c .match .rest)))
+returns-38 c = search needs
+
+returns-39 : tie.Need-returns-39
+returns-39 c = sym (List·getD-eq-default packedRules 0 (past-all 38 (c .before .args .rule) (c .match .rest)))
 
 pub packed-spec : {M : Type 1} → statement M
 packed-spec =
@@ -162,4 +165,5 @@ packed-spec =
     returns-35
     returns-36
     returns-37
-    returns-38)
+    returns-38
+    returns-39)
