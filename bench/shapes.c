@@ -341,7 +341,7 @@ struct choice {
  * atoms. */
 static struct choice slow_choice(struct file *f) {
     static const char *const words[] = {"and", "or", "imp"};
-    enum { UNEQUAL = MOST_ON_SIDE - 2, OTHERS = 2 * IN_SWAP + 2 * UNEQUAL + 6, CHAIN = MOST_FORMULAS - OTHERS };
+    enum { UNEQUAL = MOST_ON_SIDE - 2, OTHERS = 2 * IN_SWAP + 2 * UNEQUAL + 5, CHAIN = MOST_FORMULAS - OTHERS };
     int p[IN_SWAP], chain[CHAIN], always[UNEQUAL];
     for (int i = 0; i < IN_SWAP; i++)
         p[i] = atom(f);

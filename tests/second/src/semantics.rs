@@ -142,9 +142,9 @@ pub fn same_pairs(formulas: &Formulas, two: [Formula; 2]) -> bool {
     })
 }
 
-/// The same by values, as Goedel has them: 0 for what fails in (T,T), 1 for what holds there
-/// alone, 2 for what holds in (H,T) too. Formulas with equal values for all of their atoms
-/// hold in the same pairs, and the other way round, since each (T,T) is a pair.
+/// The same by values: 0 for what fails in (T,T), 1 for what holds there alone, 2 for what
+/// holds in (H,T) too. Formulas with the same value for all values of their atoms hold in the
+/// same pairs, and the other way round, since each (T,T) is a pair.
 pub fn same_values(formulas: &Formulas, two: [Formula; 2]) -> bool {
     let (formulas, [a, b]) = formulas.alone(two);
     let atoms: Vec<u16> = rising(formulas.atoms_of(&[a, b])).collect();
