@@ -337,23 +337,27 @@ struct choice {
     int first, fits, differs;
 };
 
-/* Each formula rests on hundreds of others, and A never holds. All but the last to choose from hold in the one pair in which H has all
- * atoms. */
-static struct choice slow_choice(struct file *f) {
+/* Each formula rests on hundreds of others, and the one that fits never holds. All but the last to choose from hold in the one pair in which
+ * H has all of their atoms: the same eight, or seven and one of its own where the file has 64. */
+static struct choice slow_choice(struct file *f, int atoms) {
     static const char *const words[] = {"and", "or", "imp"};
-    enum { UNEQUAL = MOST_ON_SIDE - 2, OTHERS = 2 * IN_SWAP + 2 * UNEQUAL + 5, CHAIN = MOST_FORMULAS - OTHERS };
-    int p[IN_SWAP], chain[CHAIN], always[UNEQUAL];
-    for (int i = 0; i < IN_SWAP; i++)
+    enum { MOST_ATOMS = 64, UNEQUAL = MOST_ON_SIDE - 2 };
+    int p[MOST_ATOMS] = {0}, chain[MOST_FORMULAS], held[UNEQUAL], always[UNEQUAL];
+    int common = atoms > IN_SWAP ? IN_SWAP - 1 : IN_SWAP, own = atoms - common;
+    for (int i = 0; i < atoms; i++)
         p[i] = atom(f);
-    int bot = formula(f, "bot", NONE, NONE), every = joined(f, p, IN_SWAP), newest = p[0];
-    for (int i = 0; i < CHAIN; i++)
-        chain[i] = newest = formula(f, words[i % 3], i % 2 ? p[i % IN_SWAP] : newest, i % 2 ? newest : p[i % IN_SWAP]);
+    int bot = formula(f, "bot", NONE, NONE), every = joined(f, p, common);
     for (int i = 0; i < UNEQUAL; i++)
-        always[i] = formula(f, "imp", bot, chain[CHAIN - 1 - i]);
+        held[i] = own == 0 ? every : i < own ? formula(f, "and", p[common + i], every) : formula(f, "and", every, p[common + i - own]);
+    int length = MOST_FORMULAS - f->formulas - 2 * UNEQUAL - 5, newest = p[0];
+    for (int i = 0; i < length; i++)
+        chain[i] = newest = formula(f, words[i % 3], i % 2 ? p[i % common] : newest, i % 2 ? newest : p[i % common]);
+    for (int i = 0; i < UNEQUAL; i++)
+        always[i] = formula(f, "imp", bot, chain[length - 1 - i]);
     struct choice c = {.fits = formula(f, "and", newest, bot)};
     c.differs = formula(f, "and", negation(f, negation(f, every)), always[0]);
     for (int i = 0; i < UNEQUAL; i++)
-        c.from = with(c.from, formula(f, "and", always[i], every));
+        c.from = with(c.from, formula(f, "and", always[i], held[i]));
     c.from = with(c.from, formula(f, "and", bot, newest));
     c.first = row(f, "same", c.from.formulas[0], NONE, NONE, c.from, one(c.from.formulas[0]));
     return c;
@@ -363,16 +367,16 @@ static void slow_swap(struct file *f, const struct choice *c, int a) {
     row(f, "swap", a, c->first, NONE, with(c->from, a), one(c->from.formulas[0]));
 }
 
-static void accepted_swaps(struct file *f, int rounds) {
-    struct choice c = slow_choice(f);
+static void accepted_swaps(struct file *f, int atoms, int rounds) {
+    struct choice c = slow_choice(f, atoms);
     for (int i = 0; i < rounds; i++)
         slow_swap(f, &c, c.fits);
     close_with(f, 0);
 }
 
 /* The same with a last row that is refused. */
-static void refused_swaps(struct file *f, int rounds) {
-    struct choice c = slow_choice(f);
+static void refused_swaps(struct file *f, int atoms, int rounds) {
+    struct choice c = slow_choice(f, atoms);
     for (int i = 1; i < rounds; i++)
         slow_swap(f, &c, c.fits);
     slow_swap(f, &c, c.differs);
@@ -399,8 +403,9 @@ const struct shape slow_models[SLOW_MODELS] = {
 };
 
 const struct shape slow_swaps[SLOW_SWAPS] = {
-    {"accepted swaps", .write = accepted_swaps, .in_runs = true, .filled_in_runs = true},
-    {"refused swaps", .write = refused_swaps, .in_runs = true, .filled_in_runs = true, .number = ELK_WRONG_STEP},
+    {"accepted", .write_over = accepted_swaps, .atoms = IN_SWAP, .in_runs = true, .filled_in_runs = true},
+    {"refused", .write_over = refused_swaps, .atoms = IN_SWAP, .in_runs = true, .filled_in_runs = true, .number = ELK_WRONG_STEP},
+    {"own atoms", .write_over = accepted_swaps, .atoms = 64, .in_runs = true, .filled_in_runs = true},
 };
 
 const struct long_line long_lines[LONG_LINES] = {
