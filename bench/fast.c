@@ -108,8 +108,8 @@ enum { WORD_BITS = 7, WORD_SLOTS = 1 << WORD_BITS, NAME_BITS = 7, NAME_SLOTS = 1
 enum { FORMULA_BITS = 11, FORMULA_SLOTS = 1 << FORMULA_BITS };
 
 /* A bit for each of 256 pairs (H,T) over up to 8 atoms. The pairs are numbered to base 3, with a digit for each atom: 0 if it is not in T,
- * 1 if it is in T alone, 2 if it is in H as well. 26 blocks hold the 3^8 pairs; in what a block has beyond the pairs of some atoms, these come
- * again. */
+ * 1 if it is in T alone, 2 if it is in H as well. 26 blocks hold the 3^8 pairs. Fewer atoms have fewer pairs, and these come again in the
+ * rest of their last block. */
 typedef uint64_t pairs __attribute__((vector_size(32)));
 
 enum { IN_BLOCK = 256, BLOCKS = 26 };

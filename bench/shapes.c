@@ -337,8 +337,8 @@ struct choice {
     int first, fits, differs;
 };
 
-/* Each formula rests on hundreds of others, and the one that fits never holds. All but the last to choose from hold in the one pair in which
- * H has all of their atoms: the same eight, or seven and one of its own where the file has 64. */
+/* Each formula rests on hundreds of others. The one that fits never holds, and neither does the last to choose from; the others hold in
+ * the one pair in which H has all of their atoms: the same eight, or seven and one of its own where the file has 64. */
 static struct choice slow_choice(struct file *f, int atoms) {
     static const char *const words[] = {"and", "or", "imp"};
     enum { MOST_ATOMS = 64, UNEQUAL = MOST_ON_SIDE - 2 };

@@ -5,7 +5,8 @@
 #include <stdbool.h>
 #include <stddef.h>
 
-enum { MOST_BYTES = 65536, MOST_FORMULAS = 1024, MOST_ROWS = 2048, MOST_ON_SIDE = 64, MOST_ENTRIES = 16384, MOST_IN_MODEL = 16, IN_SWAP = 8 };
+enum { MOST_BYTES = 65536, MOST_FORMULAS = 1024, MOST_ROWS = 2048, MOST_ON_SIDE = 64, MOST_ENTRIES = 16384 };
+enum { MOST_IN_MODEL = 16, IN_SWAP = 8 };
 
 /* A set of formulas, or of atoms, by their numbers in rising order. */
 struct side {
