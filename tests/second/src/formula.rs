@@ -125,8 +125,8 @@ impl Formulas {
         (own, two.map(|formula| moved[&formula]))
     }
 
-    /// The answer to a question about two formulas that is always the same one. It is asked
-    /// once of each two, since a file may have two thousand rows for it.
+    /// Asks a question, always the same one, about two formulas, and keeps the answer: a file
+    /// may have two thousand rows in which it is asked.
     pub fn compare(&mut self, two: [Formula; 2], question: fn(&Formulas, [Formula; 2]) -> bool) -> bool {
         if let Some(&answer) = self.compared.get(&two) {
             return answer;

@@ -8,7 +8,7 @@ use crate::draft::{Draft, DraftRow, names};
 use crate::formula::{Atoms, Formula, FormulaSet, Formulas, Node, rising};
 use crate::instance::{MOST_SWAPPED, Step, Verdict, by_algebra, stability};
 use crate::judge::{MOST_BYTES, MOST_FORMULAS, MOST_IN_A_POOL, MOST_ON_A_SIDE, MOST_ROWS};
-use crate::laws::{EQUALITIES, Laws, NEAR_EQUALITIES};
+use crate::laws::{EQUALITIES, NEAR_EQUALITIES};
 use crate::prove::Prover;
 use crate::random::Random;
 use crate::rules::{ATOM, B, Bindings, ELK, Rule, SetName, Sets, SideScheme};
@@ -124,7 +124,7 @@ fn material(
 ) -> (Bindings, Option<Formula>, Vec<Formula>) {
     let first = formula(random, formulas, atoms, 2);
     let second = match rule.name {
-        "swap" => made_over(random, formulas, atoms, first, &EQUALITIES),
+        "swap" => equal_to(random, formulas, atoms, first),
         _ => formula(random, formulas, atoms, 2),
     };
     let bindings: Bindings = [Some(first), Some(second), Some(formulas.atom(random.pick(atoms)))];
@@ -180,14 +180,18 @@ impl LooseStep {
         let place = random.below(self.premises.len() + 1);
         let sequent = self.premises.get_mut(place).unwrap_or(&mut self.conclusion);
         let side = if random.once_in(2) { &mut sequent.antecedent } else { &mut sequent.succedent };
-        let formula = match side.len() {
-            0 => random.pick(&self.pool),
-            count if random.once_in(2) => *side.iter().nth(random.below(count)).expect("within the side"),
-            _ => random.pick(&self.pool),
+        let formula = match side.is_empty() || random.once_in(2) {
+            true => random.pick(&self.pool),
+            false => pick_of(random, side),
         };
-        if !side.remove(&formula) {
-            side.insert(formula);
-        }
+        toggle(side, formula);
+    }
+}
+
+/// Takes a formula out of a set, or puts it in.
+fn toggle(set: &mut FormulaSet, formula: Formula) {
+    if !set.remove(&formula) {
+        set.insert(formula);
     }
 }
 
@@ -238,8 +242,9 @@ fn forward(random: &mut Random, prover: &mut Prover, pool: &[Formula], rule: &Ru
     let principal = rule.principal.map(|_| random.pick(pool));
     let mut bindings = ELK.bind(&prover.formulas, rule, principal)?;
     if rule.name == "swap" {
-        let given: Vec<Formula> = prover.rows[premises[0]].sequent.antecedent.iter().copied().collect();
-        bindings[B] = Some(*given.get(random.below(given.len().max(1)))?);
+        let given = &prover.rows[premises[0]].sequent.antecedent;
+        bindings[B] = (!given.is_empty()).then(|| pick_of(random, given));
+        bindings[B]?;
     }
     let sets = sets_between(random, prover, pool, rule, &bindings, &premises);
     let sequent = ELK.sequent(&mut prover.formulas, &rule.conclusion, &bindings, &sets);
@@ -299,7 +304,7 @@ pub fn swaps(random: &mut Random) -> Draft {
             prover.push(same(common, Sequent { antecedent: left.clone(), succedent: right.clone() }));
         for _ in 0..1 + random.below(3) {
             let old = pick_of(random, &left);
-            let new = made_over(random, &mut prover.formulas, atoms, old, &EQUALITIES);
+            let new = equal_to(random, &mut prover.formulas, atoms, old);
             if prover.formulas.atoms_of(&[old, new]).count_ones() > MOST_SWAPPED {
                 continue;
             }
@@ -334,11 +339,7 @@ pub fn swap_or_none(random: &mut Random) -> Draft {
         let mut prover = Prover::new(formulas, Random::new(random.word()));
         let premise = prover.push(same(common, Sequent { antecedent: premise, succedent: right.clone() }));
         if random.once_in(5) {
-            let side = if random.once_in(4) { &mut right } else { &mut left };
-            let formula = random.pick(&pool);
-            if !side.remove(&formula) {
-                side.insert(formula);
-            }
+            toggle(if random.once_in(4) { &mut right } else { &mut left }, random.pick(&pool));
         }
         prover.push(swap(new, premise, Sequent { antecedent: left, succedent: right }));
         Some(prover)
@@ -353,25 +354,19 @@ fn swap(new: Formula, premise: usize, sequent: Sequent) -> DraftRow {
 /// A formula that is equal to another, comes near it, is it, or is any.
 fn other_of(random: &mut Random, formulas: &mut Formulas, atoms: &[u16], formula: Formula) -> Formula {
     match random.below(8) {
-        0..4 => made_over(random, formulas, atoms, formula, &EQUALITIES),
+        0..4 => equal_to(random, formulas, atoms, formula),
         4..6 => {
-            let near = made_over(random, formulas, atoms, formula, &EQUALITIES);
-            NEAR_EQUALITIES.apply(random, formulas, atoms, near)
+            let equal = equal_to(random, formulas, atoms, formula);
+            NEAR_EQUALITIES.apply(random, formulas, atoms, equal)
         }
         6 => formula,
         _ => over_some(random, formulas, atoms),
     }
 }
 
-/// A formula made over by so many laws, one to three.
-fn made_over(
-    random: &mut Random,
-    formulas: &mut Formulas,
-    atoms: &[u16],
-    formula: Formula,
-    laws: &Laws,
-) -> Formula {
-    (0..1 + random.below(3)).fold(formula, |made, _| laws.apply(random, formulas, atoms, made))
+/// The formula made over by one to three laws into another that holds in the same pairs.
+fn equal_to(random: &mut Random, formulas: &mut Formulas, atoms: &[u16], formula: Formula) -> Formula {
+    (0..1 + random.below(3)).fold(formula, |made, _| EQUALITIES.apply(random, formulas, atoms, made))
 }
 
 /// A small formula, or one in which all atoms occur.

@@ -1,10 +1,10 @@
 //! Rows of `swap`: formulas that hold in the same pairs and some that nearly do, sets that
 //! may hold A, B or both, several B to choose from, and 8 atoms and more.
 
-use super::limits::{atom_formulas, atoms, full_atoms};
+use super::limits::{atom_formulas, atoms};
 use super::{Case, raw, rows, tabbed};
 use crate::draft::list;
-use crate::judge::{MOST_FORMULAS, MOST_ON_A_SIDE};
+use crate::judge::{MOST_ATOMS, MOST_FORMULAS, MOST_ON_A_SIDE};
 
 /// Conjunctions of so many atoms, which the rows below call by these words.
 const WIDE: [(&str, &str); 2] =
@@ -485,113 +485,128 @@ fn claims() -> Vec<Case> {
     ]
 }
 
+/// The lines of atoms and of formulas, of which the first are the atoms by their numbers.
+#[derive(Clone)]
+struct Lines {
+    text: String,
+    formulas: usize,
+}
+
+impl Lines {
+    fn over(count: usize) -> Self {
+        Lines { text: atoms(count) + &atom_formulas(count), formulas: count }
+    }
+
+    fn formula(&mut self, content: String) -> usize {
+        self.text += &tabbed(&format!("F {} {content}", self.formulas));
+        self.formulas += 1;
+        self.formulas - 1
+    }
+
+    fn and(&mut self, first: usize, second: usize) -> usize {
+        self.formula(format!("and {first} {second}"))
+    }
+
+    /// With so many `~` before it.
+    fn negated(&mut self, formula: usize, times: usize) -> usize {
+        (0..times).fold(formula, |part, _| self.formula(format!("not {part} -")))
+    }
+
+    fn joined(&mut self, formulas: impl IntoIterator<Item = usize>) -> usize {
+        formulas.into_iter().reduce(|whole, formula| self.and(whole, formula)).expect("a formula")
+    }
+
+    /// Said twice, and that twice again, so many times.
+    fn doubled(&mut self, formula: usize, times: usize) -> usize {
+        (0..times).fold(formula, |part, _| self.and(part, part))
+    }
+
+    /// A row with these formulas on its left, and then one by `swap`. If that is to pass, a row of
+    /// one atom is claimed.
+    fn swap(self, name: &str, number: u16, old: &[usize], principal: usize, new: &[usize]) -> Case {
+        let (common, left, swapped) = (old[0], list(old), list(new));
+        let rows = format!("N 0 same {common} - {left} {common} / N 1 swap {principal} 0 {swapped} {common}");
+        let claim = if number == 0 { " / N 2 same 0 - 0 0 / M 0 / C 0 0" } else { "" };
+        let text = self.text + &tabbed(&(rows + claim));
+        raw(&format!("rule_swap/{name}"), number, text.lines().count(), text)
+    }
+}
+
 /// Atoms count as they occur, and not by their numbers.
 fn atoms_by_number() -> Vec<Case> {
-    // Formula k is atom k; the one from 64 on joins so many atoms in their order, the next as
-    // many in the other.
-    let joined = |chosen: &[usize]| {
-        let mut text = full_atoms() + &atom_formulas(64);
-        let mut next = 64;
-        let [rising, falling] = [chosen.to_vec(), chosen.iter().rev().copied().collect()].map(|order| {
-            let (first, rest) = order.split_first().expect("an atom to begin with");
-            rest.iter().fold(*first, |whole, atom| {
-                text += &format!("F\t{next}\tand\t{whole}\t{atom}\n");
-                next += 1;
-                next - 1
-            })
-        });
-        text += &tabbed(&format!("N 0 same {rising} - {rising} {rising}"));
-        text + &tabbed(&format!("N 1 swap {falling} 0 {falling} {rising}"))
-    };
-    let accepted = |name: &str, chosen: &[usize]| {
-        let model = list(chosen);
-        let text = joined(chosen);
-        let last = text.lines().last().expect("a last row").split('\t').collect::<Vec<_>>();
-        let text = format!("{text}M\t{model}\nC\t{}\t{}\n", last[5], last[6]);
-        raw(&format!("rule_swap/{name}"), 0, text.lines().count(), text.clone())
-    };
-    let refused = |name: &str, chosen: &[usize]| {
-        let text = joined(chosen);
-        raw(&format!("rule_swap/{name}"), 18, text.lines().count(), text.clone())
+    let turned = |name: &str, number: u16, chosen: Vec<usize>| {
+        let mut lines = Lines::over(MOST_ATOMS);
+        let old = lines.joined(chosen.iter().copied());
+        let new = lines.joined(chosen.iter().copied().rev());
+        lines.swap(name, number, &[old], new, &[new])
     };
     vec![
-        accepted("atoms_0_and_63", &[0, 63]),
-        accepted("atoms_56_to_63", &[56, 57, 58, 59, 60, 61, 62, 63]),
-        accepted("atoms_28_to_35", &[28, 29, 30, 31, 32, 33, 34, 35]),
-        accepted("every_ninth_atom", &[0, 9, 18, 27, 36, 45, 54, 63]),
-        refused("atoms_55_to_63", &[55, 56, 57, 58, 59, 60, 61, 62, 63]),
-        refused("atoms_0_to_8", &[0, 1, 2, 3, 4, 5, 6, 7, 8]),
-        refused("atoms_28_to_36", &[28, 29, 30, 31, 32, 33, 34, 35, 36]),
-        refused("every_eighth_atom_less_one", &[0, 7, 15, 23, 31, 39, 47, 55, 63]),
-        refused("all_64_atoms", &Vec::from_iter(0..64)),
+        turned("atoms_0_and_63", 0, vec![0, 63]),
+        turned("atoms_56_to_63", 0, (56..64).collect()),
+        turned("atoms_28_to_35", 0, (28..36).collect()),
+        turned("every_ninth_atom", 0, (0..64).step_by(9).collect()),
+        turned("atoms_0_to_8", 18, (0..9).collect()),
+        turned("atoms_28_to_36", 18, (28..37).collect()),
+        turned("atoms_55_to_63", 18, (55..64).collect()),
+        turned("every_seventh_atom", 18, (0..64).step_by(7).collect()),
+        turned("all_64_atoms", 18, (0..64).collect()),
     ]
 }
 
-/// Formulas that repeat their parts, a thousand deep.
+/// Formulas that repeat their parts, up to a thousand deep.
 fn shared_parts() -> Vec<Case> {
-    let case = |name: &str, number: u16, text: String| {
-        raw(&format!("rule_swap/{name}"), number, text.lines().count(), text.clone())
-    };
-    // Formula `from` with itself, and the whole with itself again, up to `last`.
-    let doubled = |from: usize, first: usize, last: usize| -> String {
-        let parts = |k: usize| if k == first { from } else { k - 1 };
-        (first..=last).map(|k| format!("F\t{k}\tand\t{0}\t{0}\n", parts(k))).collect()
-    };
-    let two = atoms(2) + &atom_formulas(2) + "F\t2\tand\t0\t1\n";
-    let deep = two.clone() + &doubled(2, 3, MOST_FORMULAS - 1);
-    let half = 500;
-    let near = two + &tabbed("F 3 not 1 - / F 4 not 3 - / F 5 and 0 4");
-    let near = near + &doubled(2, 6, half) + &doubled(5, half + 1, 2 * half);
-    let negated: String = (1..MOST_FORMULAS).map(|k| format!("F\t{k}\tnot\t{}\t-\n", k - 1)).collect();
-    let negated = atoms(1) + &atom_formulas(1) + &negated;
-    let nine = atoms(9) + &atom_formulas(9);
-    let joined = |count: usize| -> String {
-        let joined =
-            (1..count).map(|k| format!("F\t{}\tand\t{}\t{k}\n", k + 8, if k == 1 { 0 } else { k + 7 }));
-        nine.clone() + &joined.collect::<String>() + &doubled(count + 7, count + 8, count + 40)
-    };
-    let swapped = |old: usize, new: usize| {
-        tabbed(&format!("N 0 same {old} - {old} {old} / N 1 swap {new} 0 {new} {old}"))
-    };
-    let claimed = |old: usize, new: usize, model: &str| {
-        swapped(old, new) + &tabbed(&format!("M {model} / C {new} {old}"))
+    let mut deep = Lines::over(2);
+    let bottom = deep.and(0, 1);
+    let top = deep.doubled(bottom, MOST_FORMULAS - 3);
+
+    let mut near = Lines::over(2);
+    let bottoms = [near.and(0, 1), {
+        let not_not_q = near.negated(1, 2);
+        near.and(0, not_not_q)
+    }];
+    let [one, other] = bottoms.map(|bottom| near.doubled(bottom, 500));
+
+    let mut negations = Lines::over(1);
+    let last = negations.negated(0, MOST_FORMULAS - 1);
+
+    let over = |name: &str, number: u16, count: usize| {
+        let mut lines = Lines::over(count);
+        let bottom = lines.joined(0..count);
+        let top = lines.doubled(bottom, 30);
+        lines.swap(name, number, &[bottom], top, &[top])
     };
     vec![
-        case("shared_parts_for_their_bottom", 0, deep.clone() + &claimed(2, 1023, "0,1")),
-        case("bottom_for_shared_parts", 0, deep + &claimed(1023, 2, "0,1")),
-        case("shared_parts_that_differ_at_the_bottom", 11, near + &swapped(half, 2 * half)),
-        case(
-            "1022_negations_for_two",
-            0,
-            negated.clone() + &swapped(2, 1022) + &tabbed("N 2 same 0 - 0 0 / M 0 / C 0 0"),
-        ),
-        case("1023_negations_for_one", 0, negated.clone() + &claimed(1, 1023, "-")),
-        case("1022_negations_for_none", 11, negated + &swapped(0, 1022)),
-        case("shared_parts_over_eight_atoms", 0, joined(8) + &claimed(15, 48, "0,1,2,3,4,5,6,7")),
-        case("shared_parts_over_nine_atoms", 18, joined(9) + &swapped(16, 49)),
+        deep.clone().swap("shared_parts_for_their_bottom", 0, &[bottom], top, &[top]),
+        deep.swap("bottom_for_shared_parts", 0, &[top], bottom, &[bottom]),
+        near.swap("shared_parts_that_differ_at_the_bottom", 11, &[one], other, &[other]),
+        negations.clone().swap("1022_negations_for_two", 0, &[2], last - 1, &[last - 1]),
+        negations.clone().swap("1023_negations_for_one", 0, &[1], last, &[last]),
+        negations.clone().swap("1022_negations_for_none", 11, &[0], last - 1, &[last - 1]),
+        negations.swap("1023_negations_for_two", 11, &[2], last, &[last]),
+        over("shared_parts_over_eight_atoms", 0, 8),
+        over("shared_parts_over_nine_atoms", 18, 9),
     ]
 }
 
-/// A row with 64 formulas on the left, one of them A, and 63 or 64 B to choose from. Formula
-/// k is atom k, 71 joins nine atoms, 72 is q&p and 73 is p&q.
+/// Rows with 64 formulas on the left, and 63 or 64 B to choose from: atoms first, then others.
 fn choices_on_a_full_side() -> Vec<Case> {
-    let joined = (65..=71).map(|k| format!("F\t{k}\tand\t{}\t{}\n", k - 1, k - 61));
-    let formulas = full_atoms() + &atom_formulas(64) + "F\t64\tand\t2\t3\n" + &joined.collect::<String>();
-    let formulas = formulas + &tabbed("F 72 and 1 0 / F 73 and 0 1");
-    let case = |name: &str, number: u16, last: &[usize]| {
-        let atoms = MOST_ON_A_SIDE - 1 - last.iter().filter(|&&formula| formula != 73).count();
-        let left = list(&[&Vec::from_iter(0..atoms), last].concat());
-        let swapped = left.strip_suffix(",73").unwrap_or(&left).to_owned() + ",73";
-        let rows = format!("N 0 same 0 - {left} 0 / N 1 swap 73 0 {swapped} 0");
-        let claim = if number == 0 { " / N 2 same 0 - 0 0 / M 0 / C 0 0" } else { "" };
-        let text = formulas.clone() + &tabbed(&(rows + claim));
-        raw(&format!("rule_swap/{name}"), number, text.lines().count(), text)
+    let mut lines = Lines::over(MOST_ATOMS);
+    let wide = lines.joined(2..11);
+    let q_and_p = lines.and(1, 0);
+    let p_and_q = lines.and(0, 1);
+    let filled =
+        |last: &[usize], length: usize| Vec::from_iter((0..length - last.len()).chain(last.iter().copied()));
+    let added = |name: &str, number: u16, last: &[usize]| {
+        let old = filled(last, MOST_ON_A_SIDE - 1);
+        let new = [&old[..], &[p_and_q]].concat();
+        lines.clone().swap(name, number, &old, p_and_q, &new)
     };
+    let repeated = filled(&[p_and_q], MOST_ON_A_SIDE);
     vec![
-        case("last_of_63_fits", 0, &[72]),
-        case("last_of_63_fits_after_a_wide_one", 0, &[71, 72]),
-        case("last_of_64_is_a", 0, &[73]),
-        case("none_of_63_fits", 11, &[]),
-        case("none_of_63_fits_and_one_is_wide", 18, &[71]),
+        added("last_of_63_fits", 0, &[q_and_p]),
+        added("last_of_63_fits_after_a_wide_one", 0, &[wide, q_and_p]),
+        added("none_of_63_fits", 11, &[]),
+        added("none_of_63_fits_and_one_is_wide", 18, &[wide]),
+        lines.clone().swap("last_of_64_is_a", 0, &repeated, p_and_q, &repeated),
     ]
 }
