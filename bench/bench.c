@@ -1,7 +1,7 @@
 /* Times the proved checker beside the unverified one of fast.c, on accepted files near the format's limits: the same texts, lent
  * tables and process, through the same signature. Every call of either clears the tables first. Some files are also told in words, in
- * a lent text that these fill. Files with the slowest models that there are stand apart, since these take the most time by far; and so do
- * lines that mean as many entries as a line can, which are refused. */
+ * a lent text that these fill. Files with the slowest models and the slowest rows of `swap` that there are stand apart, since these take
+ * the most time by far; and so do lines that mean as many entries as a line can, which are refused. */
 #include <stdio.h>
 #include <stdlib.h>
 #include <string.h>
@@ -51,7 +51,7 @@ static double microseconds(__typeof__(elk_judge) *judge, const struct text *t, s
     return (double)(end.tv_sec - start.tv_sec) * 1e6 + (double)(end.tv_nsec - start.tv_nsec) / 1e3;
 }
 
-enum { REPETITIONS = 300, SLOW_REPETITIONS = 5, SIZES = 4 };
+enum { REPETITIONS = 300, MODEL_REPETITIONS = 5, SIZES = 4 };
 
 /* The best times of both, taken in turn. */
 struct times {
@@ -122,10 +122,31 @@ static void print_times(const char *name, size_t bytes, const struct file *f, st
            best.proved / best.fast);
 }
 
-int main(void) {
+/* The largest files of shapes that take far longer than others. */
+static void print_slow(const char *table, const struct shape *slow, int count, int repetitions) {
+    static struct file file;
+    static struct text text;
+    printf("\n");
+    print_heading(table);
+    for (int i = 0; i < count; i++) {
+        if (!largest(&slow[i], MOST_BYTES, &file, &text)) {
+            fprintf(stderr, "bench: %s: no file fits\n", slow[i].name);
+            exit(1);
+        }
+        agree(slow[i].name, &text, slow[i].number);
+        print_times(slow[i].name, text.length, &file, times_of(&text, repetitions));
+    }
+}
+
+/* With the word `swaps`, the slowest rows of that rule alone: they take seconds. */
+int main(int words, char **word) {
     static struct file file;
     static struct text text;
     static struct times times[SHAPES][SIZES];
+    if (words > 1 && strcmp(word[1], "swaps") == 0) {
+        print_slow("slowest swaps", slow_swaps, SLOW_SWAPS, 1);
+        return 0;
+    }
     printf("Microseconds of one call, the best of %d. Every call clears the five lent tables first, on both sides.\n\n", REPETITIONS);
     print_heading("largest files");
     for (int i = 0; i < SHAPES; i++)
@@ -138,7 +159,7 @@ int main(void) {
                 }
                 continue;
             }
-            agree(shapes[i].name, &text, ELK_ACCEPTED);
+            agree(shapes[i].name, &text, shapes[i].number);
             times[i][j] = times_of(&text, REPETITIONS);
             if (full_size)
                 print_times(shapes[i].name, text.length, &file, times[i][j]);
@@ -165,16 +186,7 @@ int main(void) {
             printf("\n");
         }
 
-    printf("\n");
-    print_heading("slowest models");
-    for (int i = 0; i < SLOW_SHAPES; i++) {
-        if (!largest(&slow_shapes[i], MOST_BYTES, &file, &text)) {
-            fprintf(stderr, "bench: %s: no file fits\n", slow_shapes[i].name);
-            return 1;
-        }
-        agree(slow_shapes[i].name, &text, ELK_ACCEPTED);
-        print_times(slow_shapes[i].name, text.length, &file, times_of(&text, SLOW_REPETITIONS));
-    }
+    print_slow("slowest models", slow_models, SLOW_MODELS, MODEL_REPETITIONS);
 
     printf("\n");
     print_heading("longest lines");

@@ -2,24 +2,26 @@
  * govelamuth.h, for little-endian machines, with the same answers and tables.
  *
  * It goes through the text once, and reads straight into the lent tables. What rules ask of a formula is worked out when its line is
- * read: the number of its negation, its atoms, and what it can be in unst. Sides are compared with two cursors. A model is tried against
- * one part of it after the other, with the truth of each formula that the sheet rests on worked out in the order of the formulas. */
+ * read: the number of its negation, its atoms, and what it can be in unst. Sides are compared with two cursors. In swap the truth of a
+ * formula is worked out for 256 pairs at once. A model is tried against one part of it after the other, with the truth of each formula
+ * that the sheet rests on worked out in the order of the formulas. */
 #include <stdbool.h>
 #include <string.h>
 
 #include "govelamuth.h"
 
-enum { ATOMS = 64, FORMULAS = 1024, ROWS = 2048, ON_SIDE = 64, ENTRIES = 16384, BYTES = 65536, IN_MODEL = 16, ABSENT = 65535 };
+enum { ATOMS = 64, FORMULAS = 1024, ROWS = 2048, ON_SIDE = 64, ENTRIES = 16384, BYTES = 65536, IN_MODEL = 16, IN_SWAP = 8, ABSENT = 65535 };
 
 enum {
     ACCEPTED, SHORT_TABLE, TOO_LONG, BAD_LINE, OUT_OF_ORDER, FULL, BAD_NAME, NO_SUCH_ITEM, FORMULA_AGAIN, BAD_SIDE, WRONG_PREMISES,
-    WRONG_STEP, CLAIM_DIFFERS, NO_CLAIM, NO_ROOM, MODEL_MISSING_OR_UNWANTED, MODEL_TOO_LARGE, NOT_IN_EQUILIBRIUM
+    WRONG_STEP, CLAIM_DIFFERS, NO_CLAIM, NO_ROOM, MODEL_MISSING_OR_UNWANTED, MODEL_TOO_LARGE, NOT_IN_EQUILIBRIUM,
+    TOO_MANY_ATOMS
 };
 
 /* ---- the rules */
 
 /* The forms of principal formulas, beginning with the words of F lines by their codes; then the rules that stand alone. */
-enum form { BOT, ATOM, NOT, AND, OR, IMP, ANY, NOT_NOT, NOT_AND, NOT_OR, NOT_IMP, DEF, RCUT, UNST, XINI };
+enum form { BOT, ATOM, NOT, AND, OR, IMP, ANY, NOT_NOT, NOT_AND, NOT_OR, NOT_IMP, DEF, RCUT, UNST, XINI, SWAP };
 
 /* What a rule adds to a side of a premise: parts of the principal formula, or their negations. */
 enum part { NOTHING, A, B, NOT_A, NOT_B };
@@ -33,7 +35,7 @@ struct rule {
     uint8_t left[2][2], right[2][2]; /* what is added to each premise */
 };
 
-enum { RULES = 37, FIRST_REFUTATION = 14 };
+enum { RULES = 38, FIRST_REFUTATION = 14, LAST_REFUTATION = 36 };
 
 static const struct rule rules[RULES] = {
     {"def", .form = DEF},
@@ -73,7 +75,10 @@ static const struct rule rules[RULES] = {
     {"xnorl", NOT_OR, 1, LEFT, .left = {{NOT_A, NOT_B}}},
     {"xnorr1", NOT_OR, 1, RIGHT, .right = {{NOT_A}}},
     {"xnorr2", NOT_OR, 1, RIGHT, .right = {{NOT_B}}},
+    {"swap", SWAP, .premises = 1},
 };
+
+static inline bool is_refutation(uint32_t rule) { return rule >= FIRST_REFUTATION && rule <= LAST_REFUTATION; }
 
 /* ---- what is known of an accepted beginning */
 
@@ -102,6 +107,18 @@ struct traits {
 enum { WORD_BITS = 7, WORD_SLOTS = 1 << WORD_BITS, NAME_BITS = 7, NAME_SLOTS = 1 << NAME_BITS };
 enum { FORMULA_BITS = 11, FORMULA_SLOTS = 1 << FORMULA_BITS };
 
+/* A bit for each of 256 pairs (H,T) over up to 8 atoms. The pairs are numbered to base 3, with a digit for each atom: 0 if it is not in T,
+ * 1 if it is in T alone, 2 if it is in H as well. 26 blocks hold the 3^8 pairs. Fewer atoms have fewer pairs, and these come again in the
+ * rest of their last block. */
+typedef uint64_t pairs __attribute__((vector_size(32)));
+
+enum { IN_BLOCK = 256, BLOCKS = 26 };
+
+/* Where something holds: in (H,T), and in (T,T). */
+struct truth {
+    pairs here, there;
+};
+
 struct checker {
     const uint8_t *text, *end;
     struct name *names;
@@ -116,7 +133,10 @@ struct checker {
     /* Hash tables with linear probing; 0 is a free slot. */
     uint8_t word_slots[WORD_SLOTS], name_slots[NAME_SLOTS];
     uint32_t formula_slots[FORMULA_SLOTS];
-    struct traits traits[FORMULAS]; /* last, since it is not cleared */
+    uint32_t blocks; /* how many are filled */
+    /* Last, since these are not cleared. */
+    struct traits traits[FORMULAS];
+    struct truth atom_truth[BLOCKS][IN_SWAP];
 };
 
 /* ---- fields: each reader takes a field and the byte that must end it, and tells whether both are as they should be. Every reader
@@ -582,15 +602,138 @@ static bool xini_step(const struct checker *c, struct sequent conclusion) {
     return ((plain[0] & plain[1]) | (negated[0] & negated[1]) | (plain[0] & negated[0])) == 0;
 }
 
-static uint32_t judge_row(const struct checker *c, const struct row *r, bool named, uint32_t premises) {
+/* Fills the blocks up to this one. */
+static void fill_blocks(struct checker *c, uint32_t last) {
+    for (; c->blocks <= last; c->blocks++) {
+        uint64_t here[IN_SWAP][IN_BLOCK / 64] = {0}, there[IN_SWAP][IN_BLOCK / 64] = {0};
+        for (uint32_t i = 0; i < IN_BLOCK; i++)
+            for (uint32_t k = 0, digits = c->blocks * IN_BLOCK + i; k < IN_SWAP; k++, digits /= 3) {
+                here[k][i / 64] |= (uint64_t)(digits % 3 == 2) << i % 64;
+                there[k][i / 64] |= (uint64_t)(digits % 3 != 0) << i % 64;
+            }
+        for (uint32_t k = 0; k < IN_SWAP; k++) {
+            memcpy(&c->atom_truth[c->blocks][k].here, here[k], sizeof here[k]);
+            memcpy(&c->atom_truth[c->blocks][k].there, there[k], sizeof there[k]);
+        }
+    }
+}
+
+/* A formula that A or B rests on, with its parts by their places among these; or an atom by its digit. */
+struct plan {
+    uint16_t word, first, second;
+};
+
+/* Lists what A and B rest on, parts before wholes, with the two at last; and counts it. */
+static uint32_t plan_of(const struct checker *c, uint32_t a, uint32_t b, struct plan plan[FORMULAS], uint16_t place[FORMULAS]) {
+    uint64_t atoms = c->traits[a].occurring | c->traits[b].occurring;
+    uint32_t last = a > b ? a : b, count = 0;
+    bool needed[FORMULAS];
+    memset(needed, false, last + 1);
+    needed[a] = needed[b] = true;
+    for (uint32_t f = last + 1; f-- > 0;)
+        if (needed[f]) {
+            struct node n = c->nodes[f];
+            if (n.word >= NOT)
+                needed[n.first] = true;
+            if (n.word >= AND)
+                needed[n.second] = true;
+        }
+    for (uint32_t f = 0; f <= last; f++)
+        if (needed[f]) {
+            struct node n = c->nodes[f];
+            struct plan p = {.word = n.word};
+            if (n.word == ATOM)
+                p.first = (uint16_t)__builtin_popcountll(atoms & ((1ULL << n.first) - 1));
+            if (n.word >= NOT)
+                p.first = place[n.first];
+            if (n.word >= AND)
+                p.second = place[n.second];
+            place[f] = (uint16_t)count;
+            plan[count++] = p;
+        }
+    return count;
+}
+
+/* Whether A and B, over 8 atoms or fewer, hold in the same pairs. */
+static bool equal(struct checker *c, uint32_t a, uint32_t b) {
+    struct plan plan[FORMULAS];
+    uint16_t place[FORMULAS];
+    struct truth truth[FORMULAS];
+    uint32_t count = plan_of(c, a, b, plan, place), pair_count = 1;
+    for (uint64_t atoms = c->traits[a].occurring | c->traits[b].occurring; atoms != 0; atoms &= atoms - 1)
+        pair_count *= 3;
+    for (uint32_t block = 0; block * IN_BLOCK < pair_count; block++) {
+        if (block == c->blocks)
+            fill_blocks(c, block);
+        for (uint32_t i = 0; i < count; i++) {
+            const struct truth *x = &truth[plan[i].first], *y = &truth[plan[i].second];
+            switch (plan[i].word) {
+            case BOT:
+                truth[i] = (struct truth){0};
+                break;
+            case ATOM:
+                truth[i] = c->atom_truth[block][plan[i].first];
+                break;
+            case NOT:
+                truth[i].here = truth[i].there = ~x->there;
+                break;
+            case AND:
+                truth[i] = (struct truth){x->here & y->here, x->there & y->there};
+                break;
+            case OR:
+                truth[i] = (struct truth){x->here | y->here, x->there | y->there};
+                break;
+            case IMP:
+                truth[i].there = ~x->there | y->there;
+                truth[i].here = truth[i].there & (~x->here | y->here);
+                break;
+            }
+        }
+        if (memcmp(&truth[place[a]].here, &truth[place[b]].here, sizeof(pairs)) != 0)
+            return false;
+    }
+    return true;
+}
+
+/* L,B => R gives L,A => R, where A and B hold in the same pairs. B is what the premise's left has more than the conclusion's; if there is
+ * nothing, it is any formula there. */
+static uint32_t swap_step(struct checker *c, uint32_t a, struct sequent conclusion, struct sequent premise) {
+    struct side new = conclusion.left, old = premise.left, candidates = old;
+    if (!contains(new, a) || !same(conclusion.right, premise.right))
+        return WRONG_STEP;
+    for (uint32_t i = 0, j = 0, gone = 0; i < new.count || j < old.count;) {
+        if (j == old.count || (i < new.count && new.at[i] < old.at[j])) {
+            if (new.at[i++] != a)
+                return WRONG_STEP;
+        } else if (i == new.count || old.at[j] < new.at[i]) {
+            if (gone++ > 0)
+                return WRONG_STEP;
+            candidates = (struct side){old.at + j++, 1};
+        } else {
+            i++;
+            j++;
+        }
+    }
+    bool wide = false;
+    for (uint32_t i = 0; i < candidates.count; i++) {
+        uint32_t b = candidates.at[i];
+        if (__builtin_popcountll(c->traits[a].occurring | c->traits[b].occurring) > IN_SWAP)
+            wide = true;
+        else if (a == b || equal(c, a, b))
+            return ACCEPTED;
+    }
+    return wide ? TOO_MANY_ATOMS : WRONG_STEP;
+}
+
+static uint32_t judge_row(struct checker *c, const struct row *r, bool named, uint32_t premises) {
     const struct rule *rule = &rules[r->rule];
-    bool refutation = r->rule >= FIRST_REFUTATION;
+    bool refutation = is_refutation(r->rule);
     if (named != (rule->form != UNST && rule->form != XINI) || premises != rule->premises)
         return WRONG_PREMISES;
     struct sequent conclusion = sides_of(c, r), above[2] = {0};
     for (uint32_t i = 0; i < premises; i++) {
         const struct row *premise = &c->rows[r->premises[i]];
-        if ((premise->rule >= FIRST_REFUTATION) != (refutation || (rule->form == UNST && i == 1)))
+        if (is_refutation(premise->rule) != (refutation || (rule->form == UNST && i == 1)))
             return WRONG_PREMISES;
         above[i] = sides_of(c, premise);
     }
@@ -608,6 +751,8 @@ static uint32_t judge_row(const struct checker *c, const struct row *r, bool nam
     case XINI:
         step = xini_step(c, conclusion);
         break;
+    case SWAP:
+        return swap_step(c, r->principal, conclusion, above[0]);
     default:
         step = schema_step(c, rule, r->principal, conclusion, above);
     }
@@ -792,7 +937,7 @@ static uint32_t claim_line(struct checker *c, const uint8_t **at) {
         return NO_SUCH_ITEM;
     if (bad_side(left) || bad_side(right))
         return BAD_SIDE;
-    if (c->row_count == 0 || c->rows[c->row_count - 1].rule >= FIRST_REFUTATION)
+    if (c->row_count == 0 || is_refutation(c->rows[c->row_count - 1].rule))
         return CLAIM_DIFFERS;
     struct sequent last = sides_of(c, &c->rows[c->row_count - 1]);
     if (!same(last.left, (struct side){left_entries, left.count}) || !same(last.right, (struct side){right_entries, right.count}))
@@ -945,6 +1090,7 @@ static const struct phrase meanings[RULES] = {
     PHRASE("a negated disjunction holds in the counter-case, as the negations of both its parts do"), /* xnorl */
     PHRASE("a negated disjunction does not hold in the counter-case, as the negation of its first part does not"), /* xnorr1 */
     PHRASE("a negated disjunction does not hold in the counter-case, as the negation of its second part does not"), /* xnorr2 */
+    PHRASE("a formula takes the place of a given one that holds in the same cases of here-and-there"), /* swap */
 };
 
 /* The words of a list: before it, between its items, and in its place if it is empty. */
@@ -1027,7 +1173,7 @@ static bool put_premises(struct writer *w, const uint16_t premises[2]) {
 }
 
 static bool put_sentence(struct writer *w, uint32_t number, const struct row *r, const uint16_t *left, const uint16_t *right) {
-    const struct listing *words = side_words[r->rule >= FIRST_REFUTATION];
+    const struct listing *words = side_words[is_refutation(r->rule)];
     return PUT(w, "Row ") && put_number(w, number) && PUT(w, ": ") && put_phrase(w, meanings[r->rule]) && PUT(w, "; ")
         && (r->principal == ABSENT ? PUT(w, "about no single formula") : PUT(w, "about the formula ") && put_formula(w, r->principal))
         && PUT(w, "; ") && put_premises(w, r->premises) && PUT(w, "; ")

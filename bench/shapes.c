@@ -292,7 +292,7 @@ static void many_formulas(struct file *f, int rounds) {
  * tried, and fails by the last formula alone, which asks for all atoms. */
 static void slow_model(struct file *f, int atoms, int rounds) {
     static const char *const words[] = {"and", "or", "imp"};
-    int p[MOST_IN_MODEL];
+    int p[MOST_IN_MODEL] = {0};
     struct side all = {0};
     for (int i = 0; i < atoms; i++)
         all = with(all, p[i] = atom(f));
@@ -304,6 +304,84 @@ static void slow_model(struct file *f, int atoms, int rounds) {
     model(f, all);
 }
 
+/* Small formulas in the place of equal ones, over three atoms. */
+static void swapped_rows(struct file *f, int rounds) {
+    int p = atom(f), q = atom(f), r = atom(f);
+    int bot = formula(f, "bot", NONE, NONE);
+    int not_p = negation(f, p), thrice = negation(f, negation(f, not_p));
+    int never = formula(f, "and", p, not_p);
+    int p_or_q = formula(f, "or", p, q), q_or_p = formula(f, "or", q, p);
+    int first = formula(f, "imp", formula(f, "imp", p, q), q), second = formula(f, "imp", formula(f, "imp", q, p), p);
+    int implied = formula(f, "and", first, second);
+    int p_and_q = formula(f, "and", p, q), p_and_r = formula(f, "and", p, r);
+    int joined = formula(f, "and", p, formula(f, "or", q, r)), apart = formula(f, "or", p_and_q, p_and_r);
+    struct side right = two(r, bot);
+    for (int i = 0; i < rounds; i++) {
+        int last = row(f, "same", r, NONE, NONE, two(r, p_or_q), right);
+        last = row(f, "swap", q_or_p, last, NONE, two(r, q_or_p), right);
+        last = row(f, "swap", implied, last, NONE, two(r, implied), right);
+        row(f, "swap", p_or_q, last, NONE, with(two(r, implied), p_or_q), right);
+        last = row(f, "same", r, NONE, NONE, with(two(r, not_p), joined), right);
+        last = row(f, "swap", thrice, last, NONE, with(two(r, thrice), joined), right);
+        row(f, "swap", apart, last, NONE, with(two(r, thrice), apart), right);
+        last = row(f, "same", bot, NONE, NONE, one(bot), right);
+        row(f, "swap", never, last, NONE, one(never), right);
+    }
+    close_with(f, p);
+}
+
+/* What slow rows of `swap` are made of: 63 formulas to choose from, all on the left of a first row; one for which the last of them will
+ * do, and one for which none will. */
+struct choice {
+    struct side from;
+    int first, fits, differs;
+};
+
+/* Each formula rests on hundreds of others. The one that fits never holds, and neither does the last to choose from; the others hold in
+ * the one pair in which H has all of their atoms: the same eight, or seven and one of its own where the file has 64. */
+static struct choice slow_choice(struct file *f, int atoms) {
+    static const char *const words[] = {"and", "or", "imp"};
+    enum { MOST_ATOMS = 64, UNEQUAL = MOST_ON_SIDE - 2 };
+    int p[MOST_ATOMS] = {0}, chain[MOST_FORMULAS], held[UNEQUAL], always[UNEQUAL];
+    int common = atoms > IN_SWAP ? IN_SWAP - 1 : IN_SWAP, own = atoms - common;
+    for (int i = 0; i < atoms; i++)
+        p[i] = atom(f);
+    int bot = formula(f, "bot", NONE, NONE), every = joined(f, p, common);
+    for (int i = 0; i < UNEQUAL; i++)
+        held[i] = own == 0 ? every : i < own ? formula(f, "and", p[common + i], every) : formula(f, "and", every, p[common + i - own]);
+    int length = MOST_FORMULAS - f->formulas - 2 * UNEQUAL - 5, newest = p[0];
+    for (int i = 0; i < length; i++)
+        chain[i] = newest = formula(f, words[i % 3], i % 2 ? p[i % common] : newest, i % 2 ? newest : p[i % common]);
+    for (int i = 0; i < UNEQUAL; i++)
+        always[i] = formula(f, "imp", bot, chain[length - 1 - i]);
+    struct choice c = {.fits = formula(f, "and", newest, bot)};
+    c.differs = formula(f, "and", negation(f, negation(f, every)), always[0]);
+    for (int i = 0; i < UNEQUAL; i++)
+        c.from = with(c.from, formula(f, "and", always[i], held[i]));
+    c.from = with(c.from, formula(f, "and", bot, newest));
+    c.first = row(f, "same", c.from.formulas[0], NONE, NONE, c.from, one(c.from.formulas[0]));
+    return c;
+}
+
+static void slow_swap(struct file *f, const struct choice *c, int a) {
+    row(f, "swap", a, c->first, NONE, with(c->from, a), one(c->from.formulas[0]));
+}
+
+static void accepted_swaps(struct file *f, int atoms, int rounds) {
+    struct choice c = slow_choice(f, atoms);
+    for (int i = 0; i < rounds; i++)
+        slow_swap(f, &c, c.fits);
+    close_with(f, 0);
+}
+
+/* The same with a last row that is refused. */
+static void refused_swaps(struct file *f, int atoms, int rounds) {
+    struct choice c = slow_choice(f, atoms);
+    for (int i = 1; i < rounds; i++)
+        slow_swap(f, &c, c.fits);
+    slow_swap(f, &c, c.differs);
+}
+
 const struct shape shapes[SHAPES] = {
     {"short rows", .write = short_rows, .told = "words, short"},
     {"sides of 64", .write = wide_sides, .told = "words, wide"},
@@ -313,14 +391,21 @@ const struct shape shapes[SHAPES] = {
     {"unst, 63 atoms", .write_over = unstable_rows, .atoms = 63},
     {"refutations", .write = refutations, .told = "words, nested"},
     {"many formulas", .write = many_formulas},
+    {"swaps", .write = swapped_rows},
 };
 
-const struct shape slow_shapes[SLOW_SHAPES] = {
+const struct shape slow_models[SLOW_MODELS] = {
     {"model of 8", .write_over = slow_model, .atoms = 8},
     {"model of 10", .write_over = slow_model, .atoms = 10},
     {"model of 12", .write_over = slow_model, .atoms = 12},
     {"model of 14", .write_over = slow_model, .atoms = 14},
     {"model of 16", .write_over = slow_model, .atoms = MOST_IN_MODEL},
+};
+
+const struct shape slow_swaps[SLOW_SWAPS] = {
+    {"accepted", .write_over = accepted_swaps, .atoms = IN_SWAP, .in_runs = true, .filled_in_runs = true},
+    {"refused", .write_over = refused_swaps, .atoms = IN_SWAP, .in_runs = true, .filled_in_runs = true, .number = ELK_WRONG_STEP},
+    {"own atoms", .write_over = accepted_swaps, .atoms = 64, .in_runs = true, .filled_in_runs = true},
 };
 
 const struct long_line long_lines[LONG_LINES] = {
@@ -356,9 +441,9 @@ static void write_file(const struct shape *shape, int rounds, bool in_runs, stru
     assemble(f, t);
 }
 
-/* Writes the file in plain lists, and tells whether it keeps to the format's limits and to so many bytes. */
+/* Writes the file, and tells whether it keeps to the format's limits and to so many bytes. */
 static bool fits(const struct shape *shape, int rounds, size_t bytes, struct file *f, struct text *t) {
-    write_file(shape, rounds, false, f, t);
+    write_file(shape, rounds, shape->filled_in_runs, f, t);
     bool whole = f->atom_lines.length <= bytes && f->formula_lines.length <= bytes && f->row_lines.length <= bytes;
     return whole && t->length <= bytes && f->formulas <= MOST_FORMULAS && f->rows <= MOST_ROWS && f->left_entries <= MOST_ENTRIES
         && f->right_entries <= MOST_ENTRIES;

@@ -1,11 +1,12 @@
-/* The texts of the benchmark: accepted files near the format's limits, in several shapes, and the lines that mean the most. */
+/* The texts of the benchmark: files near the format's limits, in several shapes, and the lines that mean the most. */
 #ifndef SHAPES_H
 #define SHAPES_H
 
 #include <stdbool.h>
 #include <stddef.h>
 
-enum { MOST_BYTES = 65536, MOST_FORMULAS = 1024, MOST_ROWS = 2048, MOST_ON_SIDE = 64, MOST_ENTRIES = 16384, MOST_IN_MODEL = 16 };
+enum { MOST_BYTES = 65536, MOST_FORMULAS = 1024, MOST_ROWS = 2048, MOST_ON_SIDE = 64, MOST_ENTRIES = 16384 };
+enum { MOST_IN_MODEL = 16, IN_SWAP = 8 };
 
 /* A set of formulas, or of atoms, by their numbers in rising order. */
 struct side {
@@ -32,15 +33,17 @@ struct file {
 struct shape {
     const char *name;
     void (*write)(struct file *, int rounds);
-    const char *told; /* its name where it is told in words, if it is */
-    bool in_runs;     /* its lists are, with the rows that fit in plain lists */
+    const char *told;    /* its name where it is told in words, if it is */
+    bool in_runs;        /* its lists are */
+    bool filled_in_runs; /* with the rows that fit so, and not only those that fit in plain lists */
+    unsigned number;     /* that it earns */
     void (*write_over)(struct file *, int atoms, int rounds);
     int atoms;
 };
 
-enum { SHAPES = 8, SLOW_SHAPES = 5, LONG_LINES = 3 };
+enum { SHAPES = 9, SLOW_MODELS = 5, SLOW_SWAPS = 3, LONG_LINES = 3 };
 
-extern const struct shape shapes[SHAPES], slow_shapes[SLOW_SHAPES];
+extern const struct shape shapes[SHAPES], slow_models[SLOW_MODELS], slow_swaps[SLOW_SWAPS];
 
 /* A line with a list, and the number that it is refused with if the list is as many runs of 100,000 as a text has room for. */
 struct long_line {

@@ -36,6 +36,7 @@ enum elk_number {
     ELK_MODEL_MISSING_OR_UNWANTED = 15, /* no M line though the claim wants a model, or an M line though it wants none */
     ELK_MODEL_TOO_LARGE = 16, /* the model has over 16 atoms */
     ELK_NOT_IN_EQUILIBRIUM = 17, /* the model is not an equilibrium model of the claim's left side */
+    ELK_TOO_MANY_ATOMS = 18, /* no formula fits the swap, and one that leaves the sides right has over 8 atoms together with the principal */
 };
 
 struct elk_answer {

@@ -14,6 +14,7 @@ mod rule_words;
 mod run_limits;
 mod runs;
 mod steps;
+mod swaps;
 mod texts;
 mod words;
 
@@ -50,6 +51,7 @@ pub fn cases() -> Vec<Case> {
         limits::cases(),
         models::cases(),
         steps::cases(),
+        swaps::cases(),
         families::cases(),
         words::cases(),
         runs::cases(),
@@ -223,6 +225,6 @@ mod tests {
     #[test]
     fn every_number_but_1_and_14_is_earned() {
         let earned: BTreeSet<u16> = cases().iter().map(|case| case.number).collect();
-        assert!(earned.into_iter().eq((0..=17).filter(|number| ![1, 14].contains(number))));
+        assert!(earned.into_iter().eq((0..=18).filter(|number| ![1, 14].contains(number))));
     }
 }

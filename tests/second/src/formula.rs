@@ -36,6 +36,17 @@ impl Node {
             Node::And(a, b) | Node::Or(a, b) | Node::Implies(a, b) => vec![a, b],
         }
     }
+
+    /// The same connective over other parts.
+    pub fn map(self, mut change: impl FnMut(Formula) -> Formula) -> Node {
+        match self {
+            Node::Falsum | Node::Atom(_) => self,
+            Node::Not(a) => Node::Not(change(a)),
+            Node::And(a, b) => Node::And(change(a), change(b)),
+            Node::Or(a, b) => Node::Or(change(a), change(b)),
+            Node::Implies(a, b) => Node::Implies(change(a), change(b)),
+        }
+    }
 }
 
 /// All formulas spoken of, in the order in which they were first met.
@@ -44,6 +55,7 @@ pub struct Formulas {
     nodes: Vec<Node>,
     atoms: Vec<Atoms>,
     index: HashMap<Node, Formula>,
+    compared: HashMap<[Formula; 2], bool>,
 }
 
 impl Formulas {
@@ -97,6 +109,33 @@ impl Formulas {
         matches!(self.node(formula), Node::Atom(_))
     }
 
+    /// Two formulas in a keeping of their own, with nothing beside their parts.
+    pub fn alone(&self, two: [Formula; 2]) -> (Formulas, [Formula; 2]) {
+        let mut needed = BTreeSet::from(two);
+        for whole in (0..self.nodes.len() as u32).rev().map(Formula) {
+            if needed.contains(&whole) {
+                needed.extend(self.node(whole).parts());
+            }
+        }
+        let mut own = Formulas::default();
+        let mut moved = HashMap::new();
+        for formula in needed {
+            moved.insert(formula, own.keep(self.node(formula).map(|part| moved[&part])));
+        }
+        (own, two.map(|formula| moved[&formula]))
+    }
+
+    /// Asks a question, always the same one, about two formulas, and keeps the answer: a file
+    /// may have two thousand rows in which it is asked.
+    pub fn compare(&mut self, two: [Formula; 2], question: fn(&Formulas, [Formula; 2]) -> bool) -> bool {
+        if let Some(&answer) = self.compared.get(&two) {
+            return answer;
+        }
+        let answer = question(self, two);
+        self.compared.insert(two, answer);
+        answer
+    }
+
     /// The atoms that occur, at any depth.
     pub fn atoms_of<'a>(&self, formulas: impl IntoIterator<Item = &'a Formula>) -> Atoms {
         formulas.into_iter().fold(0, |atoms, f| atoms | self.atoms[f.0 as usize])
@@ -130,6 +169,19 @@ mod tests {
         assert_eq!(first, formulas.not(p));
         assert_eq!(formulas.nodes().len(), 2);
         assert_eq!(formulas.atoms_of(&[first]), 8);
+    }
+
+    #[test]
+    fn formulas_alone_have_only_their_parts_beside_them() {
+        let mut formulas = Formulas::default();
+        let [p, _, r] = [2, 1, 0].map(|k| formulas.atom(k));
+        let [not_p, _] = [p, r].map(|atom| formulas.not(atom));
+        let both = formulas.keep(Node::And(r, not_p));
+        let (own, [moved, part]) = formulas.alone([both, p]);
+        assert_eq!(own.nodes().len(), 4);
+        assert_eq!(own.node(part), Node::Atom(2));
+        assert!(matches!(own.node(moved), Node::And(a, b)
+            if own.node(a) == Node::Atom(0) && own.node(b) == Node::Not(part)));
     }
 
     #[test]

@@ -30,7 +30,7 @@ use std::process::ExitCode;
 struct Report {
     passed: usize,
     failed: usize,
-    numbers: [usize; 18],
+    numbers: [usize; 19],
     rules: BTreeMap<usize, RowCounts>,
     rows_compared: Cell<usize>,
     rows_valued: usize,
@@ -50,6 +50,7 @@ struct RowCounts {
     passed: usize,
     wrong_premises: usize,
     wrong_step: usize,
+    too_many_atoms: usize,
 }
 
 /// Words of more bytes are not read back.
@@ -179,6 +180,7 @@ impl Report {
         match (judgement.number, lines.next().flatten()) {
             (10, Some(rule)) => self.rules.entry(rule).or_default().wrong_premises += 1,
             (11, Some(rule)) => self.rules.entry(rule).or_default().wrong_step += 1,
+            (18, Some(rule)) => self.rules.entry(rule).or_default().too_many_atoms += 1,
             _ => {}
         }
     }
@@ -287,11 +289,11 @@ impl fmt::Display for Report {
         for (number, count) in self.judged() {
             writeln!(f, "{number}\t{count}")?;
         }
-        writeln!(f, "rule\trows passed\trefused with 10\trefused with 11")?;
+        writeln!(f, "rule\trows passed\trefused with 10\trefused with 11\trefused with 18")?;
         for (code, rule) in ELK.rules.iter().enumerate() {
-            let RowCounts { passed, wrong_premises, wrong_step } =
+            let RowCounts { passed, wrong_premises, wrong_step, too_many_atoms } =
                 self.rules.get(&code).copied().unwrap_or_default();
-            writeln!(f, "{}\t{passed}\t{wrong_premises}\t{wrong_step}", rule.name)?;
+            writeln!(f, "{}\t{passed}\t{wrong_premises}\t{wrong_step}\t{too_many_atoms}", rule.name)?;
         }
         writeln!(f, "{} rows decided alike by algebra and by search", self.rows_compared.get())?;
         writeln!(f, "{} rows of accepted texts are true by brute force", self.rows_valued)?;
@@ -321,16 +323,17 @@ mod tests {
     /// A run of thousands has no failure, and every number and every rule comes up.
     #[test]
     fn a_run_of_thousands() {
-        let report = run(7, 4_000, |_, _, _| Ok(()));
+        let report = run(7, 6_000, |_, _, _| Ok(()));
         assert_eq!(report.failed, 0);
         assert!(report.words_read > 100 && report.words_too_long > 0, "{report}");
         assert!(report.rewritten > 1_000 && report.rewritten_accepted > 300, "{report}");
         assert!(report.judged().all(|(_, count)| count > 5), "{report}");
         assert!(report.claims_confirmed > 100 && report.contradictions_shown > 50, "{report}");
-        let common = |counts: &RowCounts| {
-            let RowCounts { passed, wrong_premises, wrong_step } = *counts;
-            passed > 5 && wrong_premises > 0 && wrong_step > 0
+        let common = |(&code, counts): (&usize, &RowCounts)| {
+            let RowCounts { passed, wrong_premises, wrong_step, too_many_atoms } = *counts;
+            let is_swap = ELK.rules[code].name == "swap";
+            passed > 5 && wrong_premises > 0 && wrong_step > 0 && is_swap == (too_many_atoms > 5)
         };
-        assert!(report.rules.len() == ELK.rules.len() && report.rules.values().all(common), "{report}");
+        assert!(report.rules.len() == ELK.rules.len() && report.rules.iter().all(common), "{report}");
     }
 }

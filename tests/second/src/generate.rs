@@ -1,34 +1,44 @@
 //! Random derivations that must be accepted: of entailed claims by the proof of
-//! completeness, of single rules in general position, and by walking forward from
-//! whatever rows there are. A model stands beside the claim where it wants one; what no
-//! model confirms is followed by a row that one does.
+//! completeness, of single rules in general position, by walking forward from whatever
+//! rows there are, and of equal formulas swapped one after the other. A model stands beside
+//! the claim where it wants one; what no model confirms is followed by a row that one does.
+//! Beside these, rows of `swap` that need not pass.
 
 use crate::draft::{Draft, DraftRow, names};
 use crate::formula::{Atoms, Formula, FormulaSet, Formulas, Node, rising};
-use crate::instance::{Step, by_algebra, stability};
+use crate::instance::{MOST_SWAPPED, Step, Verdict, by_algebra, stability};
 use crate::judge::{MOST_BYTES, MOST_FORMULAS, MOST_IN_A_POOL, MOST_ON_A_SIDE, MOST_ROWS};
+use crate::laws::{EQUALITIES, NEAR_EQUALITIES};
 use crate::prove::Prover;
 use crate::random::Random;
-use crate::rules::{Bindings, ELK, Rule, SetName, Sets, SideScheme};
+use crate::rules::{ATOM, B, Bindings, ELK, Rule, SetName, Sets, SideScheme};
 use crate::semantics::{Pair, equilibrium_models};
 use crate::sequent::{Kind, Sequent};
 
-/// A derivation of one of the three sorts.
+/// The most atoms used in a derivation; and in swaps, where A and B may have too many.
+const FEW: usize = 3;
+const MANY: usize = MOST_SWAPPED as usize + 2;
+
+/// The most atoms of which every pair is tried for a model.
+const MOST_TRIED: usize = 6;
+
+/// A derivation of one of the four sorts.
 pub fn any(random: &mut Random) -> Draft {
-    match random.below(3) {
+    match random.below(4) {
         0 => derivation(random),
         1 => {
             let rule = random.below(ELK.rules.len());
             instance(random, &ELK.rules[rule])
         }
-        _ => walk(random),
+        2 => walk(random),
+        _ => swaps(random),
     }
 }
 
 /// A derivation of an entailed claim over a few atoms. A left without models is made to
 /// show that, half of the time.
 pub fn derivation(random: &mut Random) -> Draft {
-    attempt(random, |random, atoms| {
+    attempt(random, FEW, |random, atoms| {
         let mut formulas = Formulas::default();
         let mut side = |most: usize| {
             let count = random.below(most + 1);
@@ -48,7 +58,7 @@ pub fn derivation(random: &mut Random) -> Draft {
 
 /// A row of the given rule, with whatever rows it needs before it.
 pub fn instance(random: &mut Random, rule: &Rule) -> Draft {
-    attempt(random, |random, atoms| match rule.name {
+    attempt(random, FEW, |random, atoms| match rule.name {
         "unst" => unstable(random, atoms),
         _ => general(random, atoms, rule),
     })
@@ -78,7 +88,7 @@ fn general(random: &mut Random, atoms: &[u16], rule: &Rule) -> Option<Prover> {
     for name in [SetName::L, SetName::R, SetName::Q] {
         let mut set: FormulaSet = random.some_of(pool.iter().copied());
         match (rule.conclusion.kind, name, rule.name) {
-            (_, SetName::L, "def") => set.retain(|&f| formulas.is_atom(f) && Some(f) != bindings[2]),
+            (_, SetName::L, "def") => set.retain(|&f| formulas.is_atom(f) && Some(f) != bindings[ATOM]),
             (_, _, "def") => {}
             (Kind::Elk, ..) => drop(set.insert(common)),
             (Kind::Refutation, SetName::L, _) => set.retain(|&f| pair.holds(&formulas, f)),
@@ -112,12 +122,13 @@ fn material(
     atoms: &[u16],
     rule: &Rule,
 ) -> (Bindings, Option<Formula>, Vec<Formula>) {
-    let bindings: Bindings = [
-        Some(formula(random, formulas, atoms, 2)),
-        Some(formula(random, formulas, atoms, 2)),
-        Some(formulas.atom(random.pick(atoms))),
-    ];
-    let principal = rule.principal.map(|form| ELK.instantiate(formulas, form, &bindings));
+    let first = formula(random, formulas, atoms, 2);
+    let second = match rule.name {
+        "swap" => equal_to(random, formulas, atoms, first),
+        _ => formula(random, formulas, atoms, 2),
+    };
+    let bindings: Bindings = [Some(first), Some(second), Some(formulas.atom(random.pick(atoms)))];
+    let principal = rule.principal.map(|form| ELK.forms.instantiate(formulas, form, &bindings));
     if matches!(rule.name, "xini" | "def") {
         return (bindings, principal, literals(formulas, atoms));
     }
@@ -169,14 +180,18 @@ impl LooseStep {
         let place = random.below(self.premises.len() + 1);
         let sequent = self.premises.get_mut(place).unwrap_or(&mut self.conclusion);
         let side = if random.once_in(2) { &mut sequent.antecedent } else { &mut sequent.succedent };
-        let formula = match side.len() {
-            0 => random.pick(&self.pool),
-            count if random.once_in(2) => *side.iter().nth(random.below(count)).expect("within the side"),
-            _ => random.pick(&self.pool),
+        let formula = match side.is_empty() || random.once_in(2) {
+            true => random.pick(&self.pool),
+            false => pick_of(random, side),
         };
-        if !side.remove(&formula) {
-            side.insert(formula);
-        }
+        toggle(side, formula);
+    }
+}
+
+/// Takes a formula out of a set, or puts it in.
+fn toggle(set: &mut FormulaSet, formula: Formula) {
+    if !set.remove(&formula) {
+        set.insert(formula);
     }
 }
 
@@ -199,7 +214,7 @@ fn literals(formulas: &mut Formulas, atoms: &[u16]) -> Vec<Formula> {
 
 /// Rows found forward: rules at random on rows at random, kept where they apply.
 pub fn walk(random: &mut Random) -> Draft {
-    attempt(random, |random, atoms| {
+    attempt(random, FEW, |random, atoms| {
         let mut formulas = Formulas::default();
         let mut pool = literals(&mut formulas, &atoms[..atoms.len().min(2)]);
         pool.extend((0..6).map(|_| formula(random, &mut formulas, atoms, 2)));
@@ -225,13 +240,18 @@ fn forward(random: &mut Random, prover: &mut Prover, pool: &[Formula], rule: &Ru
         premises.push(*fit.get(random.below(fit.len().max(1)))?);
     }
     let principal = rule.principal.map(|_| random.pick(pool));
-    let bindings = ELK.bind(&prover.formulas, rule, principal)?;
+    let mut bindings = ELK.bind(&prover.formulas, rule, principal)?;
+    if rule.name == "swap" {
+        let given = &prover.rows[premises[0]].sequent.antecedent;
+        bindings[B] = (!given.is_empty()).then(|| pick_of(random, given));
+        bindings[B]?;
+    }
     let sets = sets_between(random, prover, pool, rule, &bindings, &premises);
     let sequent = ELK.sequent(&mut prover.formulas, &rule.conclusion, &bindings, &sets);
     let sequents = premises.iter().map(|&k| &prover.rows[k].sequent).collect();
     let step = Step { rule, principal, premises: sequents, conclusion: &sequent };
-    let fits = by_algebra(&ELK, &mut prover.formulas, &step);
-    fits.then(|| DraftRow {
+    let verdict = by_algebra(&ELK, &mut prover.formulas, &step);
+    (verdict == Verdict::Instance).then(|| DraftRow {
         rule: ELK.code(rule.name).expect("a rule of the table"),
         principal,
         premises,
@@ -271,9 +291,105 @@ fn sets_between(
     sets
 }
 
+/// Equal formulas put in the place of each other on the left, over up to 10 atoms.
+pub fn swaps(random: &mut Random) -> Draft {
+    attempt(random, MANY, |random, atoms| {
+        let mut formulas = Formulas::default();
+        let mut left: FormulaSet =
+            (0..1 + random.below(4)).map(|_| over_some(random, &mut formulas, atoms)).collect();
+        let common = pick_of(random, &left);
+        let right: FormulaSet = [common, over_some(random, &mut formulas, atoms)].into();
+        let mut prover = Prover::new(formulas, Random::new(random.word()));
+        let mut last =
+            prover.push(same(common, Sequent { antecedent: left.clone(), succedent: right.clone() }));
+        for _ in 0..1 + random.below(3) {
+            let old = pick_of(random, &left);
+            let new = equal_to(random, &mut prover.formulas, atoms, old);
+            if prover.formulas.atoms_of(&[old, new]).count_ones() > MOST_SWAPPED {
+                continue;
+            }
+            if !random.once_in(3) {
+                left.remove(&old);
+            }
+            left.insert(new);
+            let sequent = Sequent { antecedent: left.clone(), succedent: right.clone() };
+            last = prover.push(swap(new, last, sequent));
+        }
+        Some(prover)
+    })
+}
+
+/// A row of `swap` that may be none: the formula put in is equal to the one that goes, or
+/// comes near, or is another; others beside them may do in its place, or have too many
+/// atoms; and the sides may be wrong.
+pub fn swap_or_none(random: &mut Random) -> Draft {
+    attempt(random, MANY, |random, atoms| {
+        let mut formulas = Formulas::default();
+        let old = over_some(random, &mut formulas, atoms);
+        let new = other_of(random, &mut formulas, atoms, old);
+        let mut pool = vec![old, new];
+        for _ in 0..random.below(4) {
+            pool.push(other_of(random, &mut formulas, atoms, new));
+        }
+        let kept: FormulaSet = random.some_of(pool.iter().copied());
+        let with = |formula| kept.iter().copied().chain([formula]).collect::<FormulaSet>();
+        let (premise, mut left) = (with(old), with(new));
+        let common = pick_of(random, &premise);
+        let mut right = FormulaSet::from([common]);
+        let mut prover = Prover::new(formulas, Random::new(random.word()));
+        let premise = prover.push(same(common, Sequent { antecedent: premise, succedent: right.clone() }));
+        if random.once_in(5) {
+            toggle(if random.once_in(4) { &mut right } else { &mut left }, random.pick(&pool));
+        }
+        prover.push(swap(new, premise, Sequent { antecedent: left, succedent: right }));
+        Some(prover)
+    })
+}
+
+fn swap(new: Formula, premise: usize, sequent: Sequent) -> DraftRow {
+    let rule = ELK.code("swap").expect("swap is a rule");
+    DraftRow { rule, principal: Some(new), premises: vec![premise], sequent }
+}
+
+/// A formula that is equal to another, comes near it, is it, or is any.
+fn other_of(random: &mut Random, formulas: &mut Formulas, atoms: &[u16], formula: Formula) -> Formula {
+    match random.below(8) {
+        0..4 => equal_to(random, formulas, atoms, formula),
+        4..6 => {
+            let equal = equal_to(random, formulas, atoms, formula);
+            NEAR_EQUALITIES.apply(random, formulas, atoms, equal)
+        }
+        6 => formula,
+        _ => over_some(random, formulas, atoms),
+    }
+}
+
+/// The formula made over by one to three laws into another that holds in the same pairs.
+fn equal_to(random: &mut Random, formulas: &mut Formulas, atoms: &[u16], formula: Formula) -> Formula {
+    (0..1 + random.below(3)).fold(formula, |made, _| EQUALITIES.apply(random, formulas, atoms, made))
+}
+
+/// A small formula, or one in which all atoms occur.
+fn over_some(random: &mut Random, formulas: &mut Formulas, atoms: &[u16]) -> Formula {
+    if random.once_in(4) {
+        return formula(random, formulas, atoms, 2);
+    }
+    let first = formulas.atom(atoms[0]);
+    atoms[1..].iter().fold(first, |whole, &k| {
+        let p = formulas.atom(k);
+        let literal = if random.once_in(4) { formulas.not(p) } else { p };
+        let (a, b) = if random.once_in(2) { (whole, literal) } else { (literal, whole) };
+        joined(random, formulas, a, b)
+    })
+}
+
+fn pick_of(random: &mut Random, set: &FormulaSet) -> Formula {
+    *set.iter().nth(random.below(set.len())).expect("within the set")
+}
+
 /// Tries until a derivation comes about that fits into a file. The atoms used are a few
-/// of those that the file names.
-fn attempt(random: &mut Random, make: impl Fn(&mut Random, &[u16]) -> Option<Prover>) -> Draft {
+/// of those that the file names, no more than `most`.
+fn attempt(random: &mut Random, most: usize, make: impl Fn(&mut Random, &[u16]) -> Option<Prover>) -> Draft {
     loop {
         // All that a file may name, or a few more than a model may hold, or a few.
         let named = match random.below(8) {
@@ -281,12 +397,13 @@ fn attempt(random: &mut Random, make: impl Fn(&mut Random, &[u16]) -> Option<Pro
             1 | 2 => 17 + random.below(3),
             _ => 3 + random.below(3),
         };
-        let used = 1 + random.below(3);
+        let used = 1 + random.below(most);
+        let named = named.max(used);
         let mut atoms: Vec<u16> = (0..named as u16).collect();
         random.shuffle(&mut atoms);
         let Some(prover) = make(random, &atoms[..used]) else { continue };
         let mut draft = Draft::new(names(named), prover.formulas, &[], prover.rows);
-        if !draft.confirm(|models| random.pick(models)) {
+        if used > MOST_TRIED || !draft.confirm(|models| random.pick(models)) {
             draft.close(random.pick(&atoms));
         }
         draft.shuffle(random);
@@ -321,6 +438,10 @@ pub fn formula(random: &mut Random, formulas: &mut Formulas, atoms: &[u16], dept
         return formulas.not(a);
     }
     let b = formula(random, formulas, atoms, depth - 1);
+    joined(random, formulas, a, b)
+}
+
+fn joined(random: &mut Random, formulas: &mut Formulas, a: Formula, b: Formula) -> Formula {
     formulas.keep(match random.below(3) {
         0 => Node::And(a, b),
         1 => Node::Or(a, b),

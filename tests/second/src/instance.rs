@@ -3,11 +3,24 @@
 //! A rule asks of each side that it be a union of unknown sets (L, R, Q) and given
 //! formulas: an equation. [`by_algebra`] takes for each unknown the largest set that
 //! could do, the intersection of all sides in which it stands: if any choice solves
-//! the equations, this one does. [`by_search`] tries every choice.
+//! the equations, this one does. [`by_search`] tries every choice. Both try every B of
+//! `swap`; whether it holds in the same pairs as A is asked in two ways as well.
 
 use crate::formula::{Atoms, Formula, FormulaSet, Formulas, Node, rising, subsets};
-use crate::rules::{ATOM, Bindings, Calculus, Rule, Scheme, SetName, Sets, SideScheme};
+use crate::rules::{A, ATOM, B, Bindings, Calculus, Rule, Scheme, SetName, Sets, SideScheme};
+use crate::semantics::{same_pairs, same_values};
 use crate::sequent::Sequent;
+
+/// The most atoms that A and B of `swap` may have together.
+pub const MOST_SWAPPED: u32 = 8;
+
+#[derive(Clone, Copy, Debug, Eq, PartialEq)]
+pub enum Verdict {
+    Instance,
+    /// No instance of `swap`, and some B that leaves the sides right is too wide for it.
+    TooManyAtoms,
+    NoInstance,
+}
 
 /// A row to be decided. There are as many premises as the rule has.
 pub struct Step<'a> {
@@ -25,10 +38,58 @@ impl Step<'_> {
 }
 
 /// Decides by set algebra; serves sides of any length.
-pub fn by_algebra(calculus: &Calculus, formulas: &mut Formulas, step: &Step) -> bool {
+pub fn by_algebra(calculus: &Calculus, formulas: &mut Formulas, step: &Step) -> Verdict {
+    let mut right = all_bindings(calculus, formulas, step);
+    right.retain(|bindings| solved_by_algebra(calculus, formulas, step, bindings));
+    verdict(formulas, step.rule, &right, |formulas, two| formulas.compare(two, same_pairs))
+}
+
+/// Decides by trying every choice of the unknown sets; None if there are too many.
+pub fn by_search(calculus: &Calculus, formulas: &mut Formulas, step: &Step) -> Option<Verdict> {
+    let mut right = vec![];
+    for bindings in all_bindings(calculus, formulas, step) {
+        if solved_by_search(calculus, formulas, step, &bindings)? {
+            right.push(bindings);
+        }
+    }
+    Some(verdict(formulas, step.rule, &right, |formulas, two| same_values(formulas, two)))
+}
+
+/// What A, B and p may be. The principal says all, but for B of `swap`, which is any
+/// formula of the premise's left side.
+fn all_bindings(calculus: &Calculus, formulas: &Formulas, step: &Step) -> Vec<Bindings> {
     let Some(bindings) = calculus.bind(formulas, step.rule, step.principal) else {
-        return false;
+        return vec![];
     };
+    match step.rule.name {
+        "swap" => step.premises[0].antecedent.iter().map(|&b| [bindings[A], Some(b), None]).collect(),
+        _ => vec![bindings],
+    }
+}
+
+/// The verdict where these bindings, and no others, leave the sides right.
+fn verdict(
+    formulas: &mut Formulas,
+    rule: &Rule,
+    right: &[Bindings],
+    equal: fn(&mut Formulas, [Formula; 2]) -> bool,
+) -> Verdict {
+    if rule.name != "swap" {
+        return if right.is_empty() { Verdict::NoInstance } else { Verdict::Instance };
+    }
+    let swapped = |bindings: &Bindings| [A, B].map(|place| bindings[place].expect("swap binds both"));
+    let is_narrow = |two: &[Formula; 2]| formulas.atoms_of(two).count_ones() <= MOST_SWAPPED;
+    let (narrow, wide): (Vec<_>, Vec<_>) = right.iter().map(swapped).partition(is_narrow);
+    if narrow.iter().any(|&two| equal(formulas, two)) {
+        Verdict::Instance
+    } else if wide.is_empty() {
+        Verdict::NoInstance
+    } else {
+        Verdict::TooManyAtoms
+    }
+}
+
+fn solved_by_algebra(calculus: &Calculus, formulas: &mut Formulas, step: &Step, bindings: &Bindings) -> bool {
     let given = match step.rule.name {
         "unst" => match chosen_atoms(formulas, step) {
             Some(chosen) => {
@@ -39,28 +100,29 @@ pub fn by_algebra(calculus: &Calculus, formulas: &mut Formulas, step: &Step) -> 
         },
         _ => Sets::new(),
     };
-    let problem = Problem::of(calculus, formulas, step, &bindings, &given);
+    let problem = Problem::of(calculus, formulas, step, bindings, &given);
     let largest = [largest_sets(&problem.antecedents), largest_sets(&problem.succedents)];
     let solution: Sets = largest.into_iter().flatten().collect();
     let solves = |equation: &Equation| equation.holds(&solution);
     problem.antecedents.iter().all(solves)
         && problem.succedents.iter().all(solves)
-        && condition(formulas, step.rule, &bindings, &solution)
+        && condition(formulas, step.rule, bindings, &solution)
 }
 
-/// Decides by trying every choice of the unknown sets; None if there are too many.
-pub fn by_search(calculus: &Calculus, formulas: &mut Formulas, step: &Step) -> Option<bool> {
-    let Some(bindings) = calculus.bind(formulas, step.rule, step.principal) else {
-        return Some(false);
-    };
+fn solved_by_search(
+    calculus: &Calculus,
+    formulas: &mut Formulas,
+    step: &Step,
+    bindings: &Bindings,
+) -> Option<bool> {
     for given in choices_of_s(formulas, step)? {
-        let problem = Problem::of(calculus, formulas, step, &bindings, &given);
+        let problem = Problem::of(calculus, formulas, step, bindings, &given);
         let antecedents = all_solutions(&problem.antecedents)?;
         let succedents = all_solutions(&problem.succedents)?;
         for antecedent in &antecedents {
             for succedent in &succedents {
                 let solution = antecedent.clone().into_iter().chain(succedent.clone()).collect();
-                if condition(formulas, step.rule, &bindings, &solution) {
+                if condition(formulas, step.rule, bindings, &solution) {
                     return Some(true);
                 }
             }
@@ -284,14 +346,15 @@ mod tests {
                 let Some(mut loose) = loose_step(&mut random, rule) else { continue };
                 let mut formulas = loose.formulas.clone();
                 let conditional = matches!(rule.name, "def" | "xini");
-                assert!(conditional || by_algebra(&ELK, &mut formulas, &loose.step(rule)), "{}", rule.name);
+                let decided = by_algebra(&ELK, &mut formulas, &loose.step(rule));
+                assert!(conditional || decided == Verdict::Instance, "{}", rule.name);
                 for _ in 0..2 {
                     let decided = by_algebra(&ELK, &mut formulas, &loose.step(rule));
                     if let Some(found) = by_search(&ELK, &mut formulas, &loose.step(rule)) {
                         assert_eq!(decided, found, "{}", rule.name);
                         searched += 1;
                     }
-                    *if decided { &mut held } else { &mut failed } += 1;
+                    *if decided == Verdict::Instance { &mut held } else { &mut failed } += 1;
                     loose.disturb(&mut random);
                 }
             }
@@ -315,9 +378,10 @@ mod tests {
                     loose.disturb(&mut random);
                 }
                 let mut formulas = loose.formulas.clone();
-                let is_instance = by_algebra(&ELK, &mut formulas, &loose.step(rule));
+                let decided = by_algebra(&ELK, &mut formulas, &loose.step(rule));
                 let mut premises = rule.premises.iter().zip(&loose.premises);
-                if is_instance && premises.all(|(scheme, premise)| true_row(&formulas, scheme.kind, premise))
+                if decided == Verdict::Instance
+                    && premises.all(|(scheme, premise)| true_row(&formulas, scheme.kind, premise))
                 {
                     true_premises += 1;
                     assert!(true_row(&formulas, rule.conclusion.kind, &loose.conclusion), "{}", rule.name);

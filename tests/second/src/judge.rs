@@ -1,7 +1,7 @@
 //! The second checker: the judgement of a whole text, with the five tables.
 
 use crate::formula::{Atoms, Formula, Formulas, Node};
-use crate::instance::{self, Step};
+use crate::instance::{self, Step, Verdict};
 use crate::line::{self, Line, Number, Row, Word};
 use crate::list::List;
 use crate::rules::ELK;
@@ -39,6 +39,7 @@ pub enum Refusal {
     ModelMissingOrUnwanted = 15,
     ModelTooLarge = 16,
     NotInEquilibrium = 17,
+    TooManyAtoms = 18,
 }
 
 /// One thing for each of the five tables.
@@ -246,7 +247,8 @@ impl<'t> Checker<'t> {
 
     /// Judges one line that is well written, in its place in the text, and takes it in;
     /// gives the claim if the line is one. In each kind of line the tests stand in the
-    /// order of their numbers, so the smallest that applies is given.
+    /// order of the papers, which is that of their numbers but for 18, and the first that
+    /// applies is given.
     fn take(&mut self, place: usize, line: Line) -> Result<Option<Sequent>, Refusal> {
         match line {
             Line::Atom { number, name } => {
@@ -333,8 +335,11 @@ impl<'t> Checker<'t> {
         ensure(!row.premises.iter().any(missing), Refusal::NoSuchItem)?;
         let sequent = self.sequent(&row.left, &row.right)?;
         self.premises_fit(&row)?;
-        ensure(self.is_instance(&row, principal, &sequent), Refusal::WrongStep)?;
-        self.store(row, sequent);
+        match self.decide(&row, principal, &sequent) {
+            Verdict::Instance => self.store(row, sequent),
+            Verdict::TooManyAtoms => return Err(Refusal::TooManyAtoms),
+            Verdict::NoInstance => return Err(Refusal::WrongStep),
+        }
         Ok(())
     }
 
@@ -363,7 +368,7 @@ impl<'t> Checker<'t> {
         ensure(fit, Refusal::WrongPremises)
     }
 
-    fn is_instance(&mut self, row: &Row, principal: Option<Formula>, conclusion: &Sequent) -> bool {
+    fn decide(&mut self, row: &Row, principal: Option<Formula>, conclusion: &Sequent) -> Verdict {
         let premises = row.premises.iter().map(|&premise| &self.rows[premise as usize].sequent);
         let rule = &ELK.rules[row.rule];
         let step = Step { rule, principal, premises: premises.collect(), conclusion };

@@ -10,6 +10,7 @@ pub mod fuzz;
 pub mod generate;
 pub mod instance;
 pub mod judge;
+pub mod laws;
 pub mod line;
 pub mod list;
 pub mod mutate;

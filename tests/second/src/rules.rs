@@ -1,10 +1,11 @@
-//! The 37 rules, as the paper writes them.
+//! The 38 rules, as the papers write them.
 //!
 //! Each rule is four texts: its name, its principal formula, its premises and its
 //! conclusion. `=>` makes an ELK sequent and `;` a refutation. `A` and `B` stand for
 //! any formulas, `p` for an atom, `L`, `R` and `Q` for any sets. In `unst`, `K` and
 //! `E` are the sets of the one formula of that name, and `~~S`, `~S'` are sets that
-//! the choice of S gives. Conditions on the sets are in [`crate::instance`].
+//! the choice of S gives. Conditions on the sets, and on B of `swap`, which the
+//! principal does not give, are in [`crate::instance`].
 
 use crate::formula::{Formula, FormulaSet, Formulas, Node};
 use crate::notation;
@@ -14,7 +15,7 @@ use std::sync::LazyLock;
 
 type Written = (&'static str, &'static str, &'static [&'static str], &'static str);
 
-const TABLE: [Written; 37] = [
+const TABLE: [Written; 38] = [
     ("def", "~p", &[], "L => R,~p"),
     ("same", "A", &[], "L,A => R,A"),
     ("andl", "A&B", &["L,A,B => R"], "L,A&B => R"),
@@ -52,6 +53,7 @@ const TABLE: [Written; 37] = [
     ("xnorl", "~(A|B)", &["L,~A,~B ; R"], "L,~(A|B) ; R"),
     ("xnorr1", "~(A|B)", &["L ; R,~A"], "L ; R,~(A|B)"),
     ("xnorr2", "~(A|B)", &["L ; R,~B"], "L ; R,~(A|B)"),
+    ("swap", "A", &["L,B => R"], "L,A => R"),
 ];
 
 /// A set that a rule speaks of.
@@ -91,49 +93,43 @@ pub struct Rule {
 /// What `A`, `B` and `p` stand for in one application of a rule.
 pub type Bindings = [Option<Formula>; 3];
 
-/// The place of `p` in [`Bindings`]; it stands for atoms only.
+/// The places of `A`, `B` and `p` in [`Bindings`]; `p` stands for atoms only.
+pub const A: usize = 0;
+pub const B: usize = 1;
 pub const ATOM: usize = 2;
 
-/// The rules in the order of their codes, with the formulas they are written in.
+/// Forms of formulas over `A`, `B` and `p`.
+#[derive(Default)]
+pub struct Forms(Formulas);
+
+/// The rules in the order of their codes, with the forms they are written in.
 pub struct Calculus {
-    schemes: Formulas,
+    pub forms: Forms,
     pub rules: Vec<Rule>,
 }
 
 /// The one rule table, read.
 pub static ELK: LazyLock<Calculus> = LazyLock::new(Calculus::read);
 
-impl Calculus {
-    fn read() -> Self {
-        let mut schemes = Formulas::default();
-        let rules = TABLE.map(|(name, principal, premises, conclusion)| Rule {
-            name,
-            principal: (principal != "-").then(|| scheme_formula(&mut schemes, principal)),
-            premises: premises.iter().map(|text| scheme(&mut schemes, text)).collect(),
-            conclusion: scheme(&mut schemes, conclusion),
-        });
-        Calculus { schemes, rules: rules.into() }
+impl Forms {
+    pub fn read(&mut self, text: &str) -> Formula {
+        notation::formula(&mut self.0, text, &mut |name| match name {
+            "A" => A as u16,
+            "B" => B as u16,
+            "p" => ATOM as u16,
+            _ => panic!("{name} stands for no formula"),
+        })
     }
 
-    /// The code of the rule of this name.
-    pub fn code(&self, name: &str) -> Option<usize> {
-        self.rules.iter().position(|rule| rule.name == name)
-    }
-
-    /// What `A`, `B` and `p` are if the principal formula has the form that the rule
-    /// asks for.
-    pub fn bind(&self, formulas: &Formulas, rule: &Rule, principal: Option<Formula>) -> Option<Bindings> {
-        let mut bindings = [None; 3];
-        let fits = match (rule.principal, principal) {
-            (None, None) => true,
-            (Some(form), Some(formula)) => self.matches(formulas, form, formula, &mut bindings),
-            _ => false,
-        };
-        fits.then_some(bindings)
-    }
-
-    fn matches(&self, formulas: &Formulas, form: Formula, formula: Formula, bindings: &mut Bindings) -> bool {
-        match (self.schemes.node(form), formulas.node(formula)) {
+    /// Is the formula of this form, with what is bound already? Binds the rest.
+    pub fn matches(
+        &self,
+        formulas: &Formulas,
+        form: Formula,
+        formula: Formula,
+        bindings: &mut Bindings,
+    ) -> bool {
+        match (self.0.node(form), formulas.node(formula)) {
             (Node::Atom(variable), _) => {
                 let variable = variable as usize;
                 let earlier = bindings[variable].replace(formula);
@@ -153,24 +149,49 @@ impl Calculus {
 
     /// The formula that a form stands for.
     pub fn instantiate(&self, formulas: &mut Formulas, form: Formula, bindings: &Bindings) -> Formula {
-        let mut part = |form| self.instantiate(formulas, form, bindings);
-        let node = match self.schemes.node(form) {
+        let node = match self.0.node(form) {
             Node::Atom(variable) => {
-                return bindings[variable as usize].expect("the principal binds what a rule speaks of");
+                return bindings[variable as usize].expect("what a form speaks of is bound");
             }
-            Node::Falsum => Node::Falsum,
-            Node::Not(a) => Node::Not(part(a)),
-            Node::And(a, b) => Node::And(part(a), part(b)),
-            Node::Or(a, b) => Node::Or(part(a), part(b)),
-            Node::Implies(a, b) => Node::Implies(part(a), part(b)),
+            node => node.map(|part| self.instantiate(formulas, part, bindings)),
         };
         formulas.keep(node)
+    }
+}
+
+impl Calculus {
+    fn read() -> Self {
+        let mut forms = Forms::default();
+        let rules = TABLE.map(|(name, principal, premises, conclusion)| Rule {
+            name,
+            principal: (principal != "-").then(|| forms.read(principal)),
+            premises: premises.iter().map(|text| scheme(&mut forms, text)).collect(),
+            conclusion: scheme(&mut forms, conclusion),
+        });
+        Calculus { forms, rules: rules.into() }
+    }
+
+    /// The code of the rule of this name.
+    pub fn code(&self, name: &str) -> Option<usize> {
+        self.rules.iter().position(|rule| rule.name == name)
+    }
+
+    /// What `A`, `B` and `p` are if the principal formula has the form that the rule
+    /// asks for.
+    pub fn bind(&self, formulas: &Formulas, rule: &Rule, principal: Option<Formula>) -> Option<Bindings> {
+        let mut bindings = [None; 3];
+        let fits = match (rule.principal, principal) {
+            (None, None) => true,
+            (Some(form), Some(formula)) => self.forms.matches(formulas, form, formula, &mut bindings),
+            _ => false,
+        };
+        fits.then_some(bindings)
     }
 
     /// The formulas that a side names one by one.
     pub fn named(&self, formulas: &mut Formulas, side: &SideScheme, bindings: &Bindings) -> FormulaSet {
         let forms = side.formulas.iter();
-        forms.map(|&form| self.instantiate(formulas, form, bindings)).collect()
+        forms.map(|&form| self.forms.instantiate(formulas, form, bindings)).collect()
     }
 
     /// The sequent that a scheme is for these formulas and sets.
@@ -192,27 +213,18 @@ impl Calculus {
     }
 }
 
-fn scheme_formula(schemes: &mut Formulas, text: &str) -> Formula {
-    notation::formula(schemes, text, &mut |name| match name {
-        "A" => 0,
-        "B" => 1,
-        "p" => ATOM as u16,
-        _ => panic!("{name} stands for no formula"),
-    })
-}
-
-fn scheme(schemes: &mut Formulas, text: &str) -> Scheme {
+fn scheme(forms: &mut Forms, text: &str) -> Scheme {
     let (kind, antecedent, succedent) = notation::sides(text);
-    let antecedent = side_scheme(schemes, antecedent);
-    Scheme { kind, antecedent, succedent: side_scheme(schemes, succedent) }
+    let antecedent = side_scheme(forms, antecedent);
+    Scheme { kind, antecedent, succedent: side_scheme(forms, succedent) }
 }
 
-fn side_scheme(schemes: &mut Formulas, text: &str) -> SideScheme {
+fn side_scheme(forms: &mut Forms, text: &str) -> SideScheme {
     let mut side = SideScheme { sets: vec![], formulas: vec![] };
     for part in text.split(',') {
         match set_name(part) {
             Some(name) => side.sets.push(name),
-            None => side.formulas.push(scheme_formula(schemes, part)),
+            None => side.formulas.push(forms.read(part)),
         }
     }
     side

@@ -17,7 +17,7 @@ pub struct Sample {
     pub answer: Option<(u16, usize)>,
 }
 
-/// So many damaged copies follow each text whose answer is known.
+/// So many damaged copies follow each text.
 const DAMAGED_COPIES: usize = 6;
 
 /// Samples without end; the same seed gives the same ones.
@@ -29,18 +29,22 @@ pub fn samples(seed: u64) -> impl Iterator<Item = Sample> {
     std::iter::repeat_with(move || batch(&mut random, &groups)).flatten()
 }
 
-/// A text whose answer is known, and its damaged copies.
+/// A text, in most cases one whose answer is known, and its damaged copies.
 fn batch(random: &mut Random, groups: &[Vec<Case>]) -> Vec<Sample> {
-    let (text, answer) = if random.once_in(4) {
-        let group = &groups[random.below(groups.len())];
-        let case = &group[random.below(group.len())];
-        (case.text.clone(), (case.number, case.line))
-    } else {
-        let text = generate::any(random).text();
-        let lines = text.iter().filter(|&&byte| byte == b'\n').count();
-        (text, (0, lines))
+    let (text, answer) = match random.below(16) {
+        0..4 => {
+            let group = &groups[random.below(groups.len())];
+            let case = &group[random.below(group.len())];
+            (case.text.clone(), Some((case.number, case.line)))
+        }
+        4..7 => (generate::swap_or_none(random).text(), None),
+        _ => {
+            let text = generate::any(random).text();
+            let lines = text.iter().filter(|&&byte| byte == b'\n').count();
+            (text, Some((0, lines)))
+        }
     };
-    let mut samples = vec![lend(random, text.clone(), Some(answer))];
+    let mut samples = vec![lend(random, text.clone(), answer)];
     for _ in 0..DAMAGED_COPIES {
         let damaged = mutate(random, &text);
         samples.push(lend(random, damaged, None));

@@ -1,7 +1,8 @@
-//! The meaning of formulas, by brute force: here-and-there satisfaction, equilibrium
-//! models, entailment, and countermodels of refutations.
+//! The meaning of formulas, by brute force: here-and-there satisfaction, formulas that
+//! hold in the same pairs, equilibrium models, entailment, and countermodels of
+//! refutations.
 
-use crate::formula::{Atoms, Formula, FormulaSet, Formulas, Node, subsets};
+use crate::formula::{Atoms, Formula, FormulaSet, Formulas, Node, rising, subsets};
 use crate::sequent::{Kind, Sequent};
 
 /// A pair (H,T) with what holds in it and in (T,T), for every formula kept so far.
@@ -130,6 +131,46 @@ pub fn equilibrium_models(formulas: &Formulas, set: &FormulaSet) -> Vec<Atoms> {
     Interpretations::over(formulas, formulas.atoms_of(set)).equilibrium_models(set)
 }
 
+/// Do two formulas hold in the same pairs? Those over the atoms that occur decide it.
+pub fn same_pairs(formulas: &Formulas, two: [Formula; 2]) -> bool {
+    let (formulas, [a, b]) = formulas.alone(two);
+    let parts = |there| subsets(there).map(move |here| (here, there));
+    let mut pairs = subsets(formulas.atoms_of(&[a, b])).flat_map(parts);
+    pairs.all(|(here, there)| {
+        let mut pair = Pair::new(here, there);
+        pair.holds(&formulas, a) == pair.holds(&formulas, b)
+    })
+}
+
+/// The same by values: 0 for what fails in (T,T), 1 for what holds there alone, 2 for what
+/// holds in (H,T) too. Formulas with the same value for all values of their atoms hold in the
+/// same pairs, and the other way round, since each (T,T) is a pair.
+pub fn same_values(formulas: &Formulas, two: [Formula; 2]) -> bool {
+    let (formulas, [a, b]) = formulas.alone(two);
+    let atoms: Vec<u16> = rising(formulas.atoms_of(&[a, b])).collect();
+    let mut values = vec![];
+    (0..3usize.pow(atoms.len() as u32)).all(|choice| {
+        let digit = |k| {
+            let place = atoms.iter().position(|&atom| atom == k).expect("an atom that occurs");
+            choice / 3usize.pow(place as u32) % 3
+        };
+        values.clear();
+        for &node in formulas.nodes() {
+            let value = |f| values[formulas.place(f)];
+            let implied = |a: usize, b: usize| if a <= b { 2 } else { b };
+            values.push(match node {
+                Node::Falsum => 0,
+                Node::Atom(k) => digit(k),
+                Node::Not(a) => implied(value(a), 0),
+                Node::And(a, b) => value(a).min(value(b)),
+                Node::Or(a, b) => value(a).max(value(b)),
+                Node::Implies(a, b) => implied(value(a), value(b)),
+            });
+        }
+        values[formulas.place(a)] == values[formulas.place(b)]
+    })
+}
+
 /// Is what a row says true, over the atoms that occur in it?
 pub fn true_row(formulas: &Formulas, kind: Kind, sequent: &Sequent) -> bool {
     let atoms = formulas.atoms_of(sequent.antecedent.iter().chain(&sequent.succedent));
@@ -215,11 +256,43 @@ mod tests {
         assert!(Pair::new(0b11, 0b11).holds(&formulas, f));
     }
 
+    /// The equal ones are equal in classical logic too, and so are some of the others.
+    #[test]
+    fn formulas_that_hold_in_the_same_pairs() {
+        let equal = [
+            ("~p", "~~~p"),
+            ("p&~p", "#"),
+            ("p->p", "~#"),
+            ("p|q", "((p->q)->q)&((q->p)->p)"),
+            ("~(p&q)", "~p|~q"),
+            ("~p->q", "~~p|q"),
+            ("(p->q)|(q->p)", "~p|~~p"),
+        ];
+        let unequal = [
+            ("p", "~~p"),
+            ("p", "q"),
+            ("p|~p", "~#"),
+            ("p->q", "~p|q"),
+            ("p->q", "~q->~p"),
+            ("p|q", "~p->q"),
+            ("p", "(p->q)->p"),
+        ];
+        for (table, expected) in [(equal, true), (unequal, false)] {
+            for (one, other) in table {
+                let mut formulas = Formulas::default();
+                let two = [one, other].map(|text| notation::formula(&mut formulas, text, &mut atom));
+                assert_eq!(same_pairs(&formulas, two), expected, "{one} and {other}");
+                assert_eq!(same_values(&formulas, two), expected, "{one} and {other} by values");
+            }
+        }
+    }
+
     #[test]
     fn a_thousand_shared_conjunctions_are_valued_at_once() {
         let mut formulas = Formulas::default();
         let p = formulas.atom(0);
         let deep = (0..1000).fold(p, |f, _| formulas.keep(Node::And(f, f)));
+        assert!(same_pairs(&formulas, [deep, p]) && same_values(&formulas, [deep, p]));
         let sequent = Sequent { antecedent: [deep].into(), succedent: [p].into() };
         assert!(true_row(&formulas, Kind::Elk, &sequent));
         assert!(!true_row(&formulas, Kind::Refutation, &sequent));

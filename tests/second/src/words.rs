@@ -10,7 +10,7 @@ use crate::sequent::Kind;
 
 /// What each rule means, by its code.
 #[rustfmt::skip]
-pub const MEANINGS: [(&str, &str); 37] = [
+pub const MEANINGS: [(&str, &str); 38] = [
     ("def", "only atoms are given, so the negation of an atom that is not given holds by default"),
     ("same", "a given formula is itself one of the alternatives"),
     ("andl", "two given parts are given together as their conjunction"),
@@ -48,6 +48,7 @@ pub const MEANINGS: [(&str, &str); 37] = [
     ("xnorl", "a negated disjunction holds in the counter-case, as the negations of both its parts do"),
     ("xnorr1", "a negated disjunction does not hold in the counter-case, as the negation of its first part does not"),
     ("xnorr2", "a negated disjunction does not hold in the counter-case, as the negation of its second part does not"),
+    ("swap", "a formula takes the place of a given one that holds in the same cases of here-and-there"),
 ];
 
 /// The words of a list: before it, between its items, and in its place if it is empty.

@@ -13,7 +13,7 @@ const LEFT: usize = 0;
 const RIGHT: usize = 1;
 
 /// Rule, principal, premises, conclusion, with nothing in L and R.
-const INSTANCES: [(&str, &str, &[&str], &str); 32] = [
+const INSTANCES: [(&str, &str, &[&str], &str); 33] = [
     ("andl", "p&q", &["p,q => -"], "p&q => -"),
     ("andr", "p&q", &["- => p", "- => q"], "- => p&q"),
     ("wr", "r", &["- => -"], "- => r"),
@@ -46,6 +46,7 @@ const INSTANCES: [(&str, &str, &[&str], &str); 32] = [
     ("xnorr1", "~(p|q)", &["- ; ~p"], "- ; ~(p|q)"),
     ("xnorr2", "~(p|q)", &["- ; ~q"], "- ; ~(p|q)"),
     ("bot", "#", &["- => #"], "- => -"),
+    ("swap", "p&q", &["q&p => -"], "p&q => -"),
 ];
 
 /// Rows of the other rules, for the premises that they must have.

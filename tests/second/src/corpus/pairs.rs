@@ -1,8 +1,12 @@
-//! Lines to which two numbers apply: the smaller is given. Every pair that can meet
-//! is here; 7 and 8 can't, since what isn't there has no equal.
+//! Lines to which two numbers apply: the one that is asked first is given, which is the
+//! smaller in all pairs but 18 and 11. Every pair that can meet is here, but for that one,
+//! which is in `rule_swap`; 7 and 8 can't, since what isn't there has no equal.
 
-use super::limits::{full_atoms, full_formulas, full_left_pool, full_right_pool, full_rows};
+use super::limits::{
+    atom_formulas, atoms, full_atoms, full_formulas, full_left_pool, full_right_pool, full_rows,
+};
 use super::{Case, raw, tabbed};
+use crate::judge::MOST_ROWS;
 
 /// A file that lacks its last line, in which formula 1 is ~# and row 0 a sequent and
 /// row 1 a refutation.
@@ -19,13 +23,13 @@ pub fn cases() -> Vec<Case> {
         let text = format!("{before}{}", tabbed(last));
         cases.push(raw(&format!("pairs/{name}"), numbers[0], text.lines().count(), text));
     };
-    let atoms = tabbed(ATOMS);
+    let some_atoms = tabbed(ATOMS);
     pair("atom_3_and_4", &tabbed(FORMULAS), "A 1 q q");
-    pair("atom_3_and_4_by_number", &atoms, "A 7 r r");
+    pair("atom_3_and_4_by_number", &some_atoms, "A 7 r r");
     pair("atom_3_and_5", &full_atoms(), "A 64 r r");
-    pair("atom_3_and_6", &atoms, "A 02 P");
+    pair("atom_3_and_6", &some_atoms, "A 02 P");
     pair("atom_4_and_5", &full_atoms(), "A 65 r");
-    pair("atom_4_and_6", &atoms, "A 3 p");
+    pair("atom_4_and_6", &some_atoms, "A 3 p");
     pair("atom_4_and_6_by_kind", &tabbed(FORMULAS), "A 1 p");
     pair("atom_5_and_6", &full_atoms(), "A 64 P");
     pair("atom_5_and_6_by_use", &full_atoms(), "A 64 a0");
@@ -82,6 +86,19 @@ pub fn cases() -> Vec<Case> {
     pair("row_10_and_11_by_kind", &rows, "N 2 wr 0 1 1 1");
     pair("row_10_and_11_by_principal", &rows, "N 2 xini 0 - 0 0");
 
+    let wide = wide_formulas() + &tabbed("N 0 same 16 - 16 16 / N 1 xini - - 0 1 / N 2 same 16 - 16,17 16");
+    let full: String = (0..MOST_ROWS).map(|k| format!("N\t{k}\tsame\t16\t-\t16\t16\n")).collect();
+    pair("row_3_and_18", &wide, "N 3 swap 18 0 18 16,");
+    pair("row_4_and_18", &wide, "N 4 swap 18 0 18 16");
+    pair("row_5_and_18", &(wide_formulas() + &full), "N 2048 swap 18 0 18 16");
+    pair("row_7_and_18_by_principal", &wide, "N 3 swap 19 0 18 16");
+    pair("row_7_and_18_by_premise", &wide, "N 3 swap 18 3 18 16");
+    pair("row_9_and_18_on_the_left", &wide, "N 3 swap 18 2 17,16,18 16");
+    pair("row_9_and_18_on_the_right", &wide, "N 3 swap 18 0 18 16,16");
+    pair("row_10_and_18_by_count", &wide, "N 3 swap 18 0,0 18 16");
+    pair("row_10_and_18_by_kind", &wide, "N 3 swap 18 1 18 1");
+    pair("row_10_and_18_by_principal", &wide, "N 3 swap - 0 18 16");
+
     let claimed = tabbed("A 0 p / F 0 bot - - / N 0 same 0 - 0 0 / C 0 0");
     pair("claim_3_and_4", &claimed, "C 0 0 0");
     pair("claim_3_and_7", &rows, "C 9 00");
@@ -95,4 +112,11 @@ pub fn cases() -> Vec<Case> {
     pair("claim_7_and_12", &rows, "C 0 2");
     pair("claim_9_and_12", &rows, "C 1,0 0");
     cases
+}
+
+/// Nine atoms, by the numbers of their formulas; 16 joins them all, and 17 and 18 say it twice.
+fn wide_formulas() -> String {
+    let joined = (10..=16).map(|k| format!("F\t{k}\tand\t{}\t{}\n", k - 1, k - 8));
+    let joined = "F\t9\tand\t0\t1\n".to_owned() + &joined.collect::<String>();
+    atoms(9) + &atom_formulas(9) + &joined + &tabbed("F 17 and 16 16 / F 18 or 16 16")
 }

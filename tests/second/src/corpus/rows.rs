@@ -31,12 +31,12 @@ pub fn accepted(name: &str, rows: &str) -> Option<Case> {
     Some(super::raw(name, 0, lines, text))
 }
 
-/// A case in which the last row, and no earlier one, earns this number; or, from 15 on, the
+/// A case in which the last row, and no earlier one, earns this number; or, from 15 to 17, the
 /// line after it: the model's, or the claim's if there is no model.
 pub fn refused(name: &str, number: u16, rows: &str) -> Option<Case> {
     let draft = draft(rows)?;
     let rows = draft.names.len() + draft.listed.len() + draft.rows.len();
-    let line = if number < 15 { rows } else { rows + 1 };
+    let line = if matches!(number, 15..=17) { rows + 1 } else { rows };
     Some(super::raw(name, number, line, draft.text()))
 }
 

@@ -11,12 +11,13 @@ use std::collections::BTreeSet;
 
 pub const GROUP: &str = "rule_words";
 
-/// In the order of paper 01.
+/// In the order of paper 01, and then of paper 02.
 #[rustfmt::skip]
-const WORDS: [&str; 37] = [
+const WORDS: [&str; 38] = [
     "def", "same", "andl", "andr", "wr", "bot", "orr", "orl", "notl", "impr", "impl", "notr", "rcut", "unst",
     "xini", "xnnl", "xnnr", "xandl", "xandr1", "xandr2", "xorr", "xorl1", "xorl2", "ximpl1", "ximpl2", "ximpl3",
     "ximpr1", "ximpr2", "xnimpl", "xnimpr1", "xnimpr2", "xnandl1", "xnandl2", "xnandr", "xnorl", "xnorr1", "xnorr2",
+    "swap",
 ];
 
 /// The words of F lines, one of which is a rule's too.
@@ -191,9 +192,9 @@ mod tests {
     }
 
     #[test]
-    fn the_words_are_180_bytes_with_37_sums() {
-        assert_eq!(WORDS.concat().len(), 180);
-        assert_eq!(BTreeSet::from_iter(WORDS.map(|word| sum(word.as_bytes()))).len(), 37);
+    fn the_words_are_184_bytes_with_38_sums() {
+        assert_eq!(WORDS.concat().len(), 184);
+        assert_eq!(BTreeSet::from_iter(WORDS.map(|word| sum(word.as_bytes()))).len(), 38);
     }
 
     #[test]

@@ -14,7 +14,7 @@ const NO_ROOM: &str = "14\t0\n";
 
 /// A row of each rule out of the rest of the corpus, and its sentence.
 #[rustfmt::skip]
-pub const SENTENCES: [(&str, &str); 37] = [
+pub const SENTENCES: [(&str, &str); 38] = [
     ("rule_def/anything_on_the_right",
         r#"Row 0: only atoms are given, so the negation of an atom that is not given holds by default; about the formula not "p"; from no other row; if these are all that is given: "q"; then in every equilibrium model at least one of these alternatives holds: "p", not "p", ("q" and "r"), contradiction."#),
     ("rule_same/compound",
@@ -89,6 +89,8 @@ pub const SENTENCES: [(&str, &str); 37] = [
         r#"Row 1: a negated disjunction does not hold in the counter-case, as the negation of its first part does not; about the formula not ("p" or "q"); from row 0; there is a counter-case in here-and-there where nothing need hold; and none of these holds: not ("p" or "q")."#),
     ("rule_xnorr2/bare",
         r#"Row 1: a negated disjunction does not hold in the counter-case, as the negation of its second part does not; about the formula not ("p" or "q"); from row 0; there is a counter-case in here-and-there where nothing need hold; and none of these holds: not ("p" or "q")."#),
+    ("rule_swap/b_kept",
+        r#"Row 1: a formula takes the place of a given one that holds in the same cases of here-and-there; about the formula ("p" and "q"); from row 0; if these are all that is given: "c", ("q" and "p"), ("p" and "q"); then in every equilibrium model at least one of these alternatives holds: "c"."#),
 ];
 
 /// The words of 01's whole file.
@@ -287,6 +289,7 @@ const EVERY_RULE: &str = "
     xnorr1 ~(p|q) 35 - ; ~(p|q)
     xnorr2 ~(p|q) 31 - ; ~(p|q)
     unst - 16,42 ~~p => -
+    swap ~(p->#) 16 ~(p->#) => p
 ";
 
 const NAMES_LIKE_WORDS: &str = "A 0 not / A 1 contradiction / A 2 and / A 3 or / A 4 if / A 5 then / A 6 row / \
@@ -449,6 +452,10 @@ const DIFFERENT: &[(&str, &str, &str, &str)] = &[
         "disjunction_added_by_orr", "same p - p => p,q\norr p|q 0 p => p,q,p|q"),
     ("implication_added_by_wr", "same p - p => p,q\nwr p->q 0 p => p,q,p->q",
         "implication_added_by_impr", "same p - p => p,q\nimpr p->q 0 p => p,q,p->q"),
+    ("conjunction_put_together_by_andl", "same p - p => p,r\nandl p&p 0 p&p => p,r",
+        "conjunction_put_in_by_swap", "same p - p => p,r\nswap p&p 0 p&p => p,r"),
+    ("row_repeated_by_notl", "same p - p,~p => p,r\nnotl ~p 0 p,~p => p,r",
+        "row_repeated_by_swap", "same p - p,~p => p,r\nswap ~p 0 p,~p => p,r"),
     ("premises_in_one_order", "same p - p => p\nsame p - p => p\nandr p&p 0,1 p => p&p",
         "premises_in_the_other_order", "same p - p => p\nsame p - p => p\nandr p&p 1,0 p => p&p"),
     ("premise_of_one_row", "same p - p => p\nsame p - p => p\nwr q 0 p => p,q",
