@@ -53,7 +53,7 @@ fn start_of(rule: usize) -> usize
         35 => 2936, // xnorr1
         36 => 3035, // xnorr2
         37 => 3135, // swap
-        _ => 3213,
+        _ => 3222,
     }
 }
 
@@ -111,7 +111,7 @@ pub fn put_meaning(rule: u16, out: &mut [u8], so_far: Written) -> Written
         a negated disjunction holds in the counter-case, as the negations of both its parts do\
         a negated disjunction does not hold in the counter-case, as the negation of its first part does not\
         a negated disjunction does not hold in the counter-case, as the negation of its second part does not\
-        a formula of what is given is put in place of one that holds in the same cases\
+        a formula takes the place of a given one that holds in the same cases of here-and-there\
         ";
     let at = wide(rule);
     put(between(all, start_of(at), start_of(at + 1)), out, so_far)

@@ -48,7 +48,7 @@ meaningOf xnandr = "a negated conjunction does not hold in the counter-case, as 
 meaningOf xnorl = "a negated disjunction holds in the counter-case, as the negations of both its parts do"
 meaningOf xnorr1 = "a negated disjunction does not hold in the counter-case, as the negation of its first part does not"
 meaningOf xnorr2 = "a negated disjunction does not hold in the counter-case, as the negation of its second part does not"
-meaningOf swap = "a formula of what is given is put in place of one that holds in the same cases"
+meaningOf swap = "a formula takes the place of a given one that holds in the same cases of here-and-there"
 
 -- the phrase of a rule's code
 unfoldable pub meaningAt : ℕ → Bytes
