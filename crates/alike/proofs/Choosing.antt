@@ -28,7 +28,7 @@ use Rattle.alike.proofs.Remaining.{member-walk}
 use Rattle.alike.proofs.Covering.{alike-iff}
 
 -- a set with a member, by the test
-some-member : (set : ℕ) → (r : Bool) → r ≡ eqb (length (members set)) 0 → set < 2 ^ 64 → (not r ≡ true) ↔ ((c : ℕ) × Member c set)
+pub some-member : (set : ℕ) → (r : Bool) → r ≡ eqb (length (members set)) 0 → set < 2 ^ 64 → (not r ≡ true) ↔ ((c : ℕ) × Member c set)
 some-member set r e small = (λ n. by (members set) refl n, from r e)
   where
     by : (xs : List ℕ) → members set ≡ xs → not r ≡ true → (c : ℕ) × Member c set
@@ -88,7 +88,7 @@ module _ {formulas : List ℕ} {own set : ℕ} {side : List ℕ} {candidates : �
 -- ---- candidates judged in groups
 
 -- the atoms of two sets
-member-or : (a b p : ℕ) → Member p (bitOr a b) ↔ (Member p a ⊎ Member p b)
+pub member-or : (a b p : ℕ) → Member p (bitOr a b) ↔ (Member p a ⊎ Member p b)
 member-or a b = member-union a b (bitOr a b) (has-or a b)
 
 -- what is known of the tables

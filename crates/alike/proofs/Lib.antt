@@ -7,3 +7,4 @@ pub mod Surviving
 pub mod Covering
 pub mod Seating
 pub mod Choosing
+pub mod Numbers
