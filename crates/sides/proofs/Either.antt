@@ -2,13 +2,16 @@
 use Prim.Native.Nat.{ℕ, suc, _+_, _≤_, _<_}
 use native.Mathlib.Decide.{decLt}
 use native.Mathlib.Omega.{arith}
-use mathlib.Core.Bool.{true}
+use mathlib.Core.Bool.{Bool, true, false, _&&_, false≢true}
 use mathlib.Core.List.{List, [], _∷_, _++_, List·Memᴰ·not-nil, List·Memᴰ·cases-cons, List·Memᴰ·append-cases}
 use mathlib.Core.Logic.{⊎-elim}
 use mathlib.Core.Path.{_≡_, sym, ap, subst, _∙_}
+use borrow.Author.Tests.{eqb-true, ltb-true, eq-eqb, lt-ltb}
+use lib.Dec.{eqb, ltb}
 use lib.ListN.{length, getD}
 use Rattle.equilibrium.specs.Meaning.{_∈_, _⊆_}
 use Rattle.format.specs.Text.{strictlyRising}
+use Rattle.format.proofs.Booleans.{and-true}
 use Rattle.format.proofs.GoodBodies.{in-getD}
 use Rattle.sides.proofs.Sets.{rising-at}
 use Rattle.sides.specs.Covering.{Skips}
@@ -66,3 +69,13 @@ all-found a i both f h z m = let p = place-of a z m in subst (λ (t : ℕ). t �
 -- a number in neither is not found
 pub in-neither : (a b c : List ℕ) (i : ℕ) → i < length a → (getD a i 0 ∈ b → ⊥) → (getD a i 0 ∈ c → ⊥) → a ⊆ b ++ c → ⊥
 in-neither a b c i l nb nc h = ⊎-elim nb nc (List·Memᴰ·append-cases b (h (getD a i 0) (in-getD a i 0 l)))
+
+-- what the answer of `stands` says
+module _ (side : List ℕ) (at x : ℕ) {r : Bool} (answer : r ≡ (ltb at (length side) && eqb (getD side at 0) x)) where
+  pub on-side : r ≡ true → x ∈ side
+  on-side e =
+      let both = and-true (ltb at (length side)) (eqb (getD side at 0) x) (sym answer ∙ e) in
+      subst (λ (z : ℕ). z ∈ side) (eqb-true (getD side at 0) x (both .1)) (in-getD side at 0 (ltb-true at (length side) (both .0)))
+
+  pub not-at : r ≡ false → (at < length side) × (getD side at 0 ≡ x) → ⊥
+  not-at e h = false≢true (sym e ∙ answer ∙ rw (lt-ltb at (length side) (h .0), eq-eqb (getD side at 0) x (h .1)))

@@ -4,9 +4,9 @@ use Prim.Native.Nat.{ℕ, suc, _<_}
 use mathlib.Core.Bool.{Bool, true, false, cond}
 use mathlib.Core.List.{List, [], _∷_, List·Memᴰ·head, List·Memᴰ·tail, List·Memᴰ·cases-cons, List·Memᴰ·not-nil}
 use mathlib.Core.Logic.{_⊎_, inl, inr, ⊎-elim, _↔_}
-use mathlib.Core.Path.{_≡_, refl, sym, subst}
+use mathlib.Core.Path.{_≡_, refl, sym, ap, subst, _∙_}
 use native.Mathlib.Omega.{arith}
-use borrow.Author.Tests.{eqb-true, eqb-false}
+use borrow.Author.Tests.{eqb-true, eqb-false, ne-eqb}
 use lib.Dec.{eqb}
 use lib.ListN.{getD}
 use Rattle.equilibrium.specs.Meaning.{_∈_, _⊆_}
@@ -67,3 +67,13 @@ fit-iff a p b q sa sb =
       λ h. let k = shared .0 h in (k .0, (passes-iff a p b sa .1 (k .1 .0), passes-iff b q a sb .1 (k .1 .1))),
       λ h. shared .1 (h .0, (passes-iff a p b sa .0 (h .1 .0), passes-iff b q a sb .0 (h .1 .1))),
     )
+
+-- none, and one that is some
+abbrev pub noNumbers : Numbers
+noNumbers = record { x = noNumber; y = noNumber }
+
+abbrev pub oneNumber : ℕ → Numbers
+oneNumber n = record { x = n; y = noNumber }
+
+pub one-number : {n p : ℕ} → n ≡ p → p < 65536 → numbersOf (oneNumber n) ≡ p ∷ []
+one-number {n} e h = ap (λ (t : Bool). cond t [] (n ∷ [])) (ne-eqb n noNumber (λ k. omega arith)) ∙ ap (λ (k : ℕ). k ∷ []) e

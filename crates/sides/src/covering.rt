@@ -1,7 +1,7 @@
 // The subset tests that the rules of the calculus use, each one pass with a cursor for each side.
 ghost use mathlib.Core.List.{[], _∷_, _++_};
 ghost use Rattle.equilibrium.specs.Meaning.{_⊆_};
-ghost use Rattle.sides.specs.Covering.{Covered, Skips};
+ghost use Rattle.sides.specs.Covering.{Covered, Skips, FirstOutside};
 ghost use Rattle.sides.specs.Deciding.{DecidesIf};
 ghost use Rattle.sides.specs.Members.{AllRise};
 use crate::members::stands;
@@ -77,4 +77,21 @@ pub fn covered_by_either(a: &[u16], b: &[u16], c: &[u16]) -> bool
         return false;
     }
     true
+}
+
+// The first place of `a` whose number is not in `b`; the length of `a` if all are.
+pub fn first_outside(a: &[u16], b: &[u16]) -> usize
+    ensures { λ r. ⌜ FirstOutside (now (a .entry)) (now (b .entry)) r ⌝ }
+{
+    let mut j = 0;
+    let mut i = 0;
+    while i < a.len() {
+        let x = a[i];
+        j = skipped(b, j, x);
+        if !stands(b, j, x) {
+            return i;
+        }
+        i += 1;
+    }
+    i
 }

@@ -2,19 +2,14 @@
 -- two cursors have passed is below a[i].
 use Prim.Native.Nat.{ℕ, _-_, _<_}
 use native.Mathlib.Omega.{arith}
-use mathlib.Core.Bool.{Bool, true, false, _&&_, false≢true}
+use mathlib.Core.Bool.{true}
 use mathlib.Core.List.{List, _++_, Memᴰ·append-left, Memᴰ·append-right}
-use mathlib.Core.Path.{_≡_, sym, subst, _∙_}
+use mathlib.Core.Path.{_≡_}
 use borrow.Author.Needs.{needs}
-use borrow.Author.Tests.{eqb-true, ltb-true, eq-eqb, lt-ltb}
-use lib.Dec.{eqb, ltb}
-use lib.ListN.{length, getD}
-use Rattle.equilibrium.specs.Meaning.{_∈_}
+use lib.ListN.{length}
 use Rattle.format.specs.Text.{strictlyRising}
-use Rattle.format.proofs.Booleans.{and-true}
-use Rattle.format.proofs.GoodBodies.{in-getD}
 use Rattle.sides.proofs.Deciding.{yes-if, no-if}
-use Rattle.sides.proofs.Either.{Passed, Found, next-passed, not-there, found-more, all-found, in-neither}
+use Rattle.sides.proofs.Either.{Passed, Found, next-passed, not-there, found-more, all-found, in-neither, on-side, not-at}
 use Rattle.sides.proofs.covering.covered_by_either.Statement.{statement}
 use Rattle.sides.proofs.covering.covered_by_either.Tie as tie
 
@@ -22,16 +17,6 @@ record Cursors (a b c : List ℕ) (j k i : ℕ) : Type 0 where
   found : Found a i (b ++ c)
   passed-b : strictlyRising a ≡ true → Passed a i b j
   passed-c : strictlyRising a ≡ true → Passed a i c k
-
--- what the answer of `stands` says
-module _ (side : List ℕ) (at x : ℕ) {r : Bool} (answer : r ≡ (ltb at (length side) && eqb (getD side at 0) x)) where
-  on-side : r ≡ true → x ∈ side
-  on-side e =
-      let both = and-true (ltb at (length side)) (eqb (getD side at 0) x) (sym answer ∙ e) in
-      subst (λ (z : ℕ). z ∈ side) (eqb-true (getD side at 0) x (both .1)) (in-getD side at 0 (ltb-true at (length side) (both .0)))
-
-  not-at : r ≡ false → (at < length side) × (getD side at 0 ≡ x) → ⊥
-  not-at e h = false≢true (sym e ∙ answer ∙ rw (lt-ltb at (length side) (h .0), eq-eqb (getD side at 0) x (h .1)))
 
 abbrev Inv-loop : tie.InvT-loop
 Inv-loop a b c j₀ k₀ i₀ j k i = Cursors a b c j k i
