@@ -175,7 +175,14 @@ fn some_alike(formulas: &[u16], own: usize, set: u64, side: &[u16], candidates: 
 }
 
 // Whether one of the candidates, all of which have few atoms with the formula's own, is equal to it.
-fn some_equal(formulas: &[u16], notes: &[u64], own: usize, atoms: u64, side: &[u16], narrow: u64) -> bool
+fn some_equal(
+    formulas: &[u16],
+    notes: &[u64],
+    own: usize,
+    atoms: u64,
+    side: &[u16],
+    narrow: u64,
+) -> bool
     requires { ⌜ ((c : ℕ) → Member c narrow → Few (now notes) atoms (getD (now side) c 0)) ⌝ }
     ensures { λ r. ⌜ SomeEqual (now (formulas .entry)) (now (notes .entry)) own atoms (now (side .entry)) narrow r ⌝ }
 {

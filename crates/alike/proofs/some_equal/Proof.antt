@@ -68,8 +68,11 @@ some-alike-requires c κs =
     let rest = asked .before in
     let turn = rest .before .before .before .before in
     let start = turn .before .before .before .before in
-    omega (arith, ap (λ (w : ℕ). length (members w)) (its-set joined),
-    start .pre _ (turn .loop .inv .pending-narrow _ (sym (asked .contains .ensures) ∙ joined .before .before .if2 .taken)))
+    omega (
+      arith,
+      ap (λ (w : ℕ). length (members w)) (its-set joined),
+      start .pre _ (turn .loop .inv .pending-narrow _ (sym (asked .contains .ensures) ∙ joined .before .before .if2 .taken)),
+    )
 
 returns : tie.Need-returns Inv-loop μ-loop
 returns c =
