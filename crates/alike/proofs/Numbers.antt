@@ -71,9 +71,11 @@ module _ (formulas notes : List ℕ) (own atoms : ℕ) (side : List ℕ) (all na
     one-iff = (
       λ (c, m, q). let k = few c .0 m in (getD side c 0, entry c (k .0), (narrow-iff (getD side c 0) (entry c (k .0)) .0 (k .1), q)),
       λ (x, m, (n, q)).
-          let at = place x m in
-          (at .0, few (at .0) .1 (at .1, subst (Few notes atoms) (sym (at .2)) (narrow-iff x m .1 n)),
-          subst (λ (y : ℕ). Equal (decodedAt (b .nodes) own) (decodedAt (b .nodes) y)) (sym (at .2)) q),
+          let at = place x m in (
+            at .0,
+            few (at .0) .1 (at .1, subst (Few notes atoms) (sym (at .2)) (narrow-iff x m .1 n)),
+            subst (λ (y : ℕ). Equal (decodedAt (b .nodes) own) (decodedAt (b .nodes) y)) (sym (at .2)) q,
+          ),
     )
 
     fits-iff : (r ≡ true) ↔ OneFits b own side

@@ -139,7 +139,6 @@ module _ (key : NodeRecord) (places heres theres : List ℕ) (h t : ℕ) where
 
 -- ---- the formulas of a good body
 
-
 module _ {b : Body} {table : List ℕ} (g : Formulas b table) (places heres theres : List ℕ) (h t j h′ t′ : ℕ) (pair : Pair places h t j h′ t′) where
   -- the digits of a formula are its truths in pair j
   abbrev DigitsRight : ℕ → Type 0

@@ -71,9 +71,10 @@ loop-again : tie.Need-loop-again Inv-loop μ-loop
 loop-again c =
     let found = c .before .before in
     let rest = found .before .before .before in
-    let turn = rest .before .before .before .before in
-    (search needs,
-      filtering-keeps (turn .loop .inv .1) (search needs) (walk rest) (c .insert .ensures) (omega (arith, counted found, c .before .if2 .taken)))
+    let turn = rest .before .before .before .before in (
+      search needs,
+      filtering-keeps (turn .loop .inv .1) (search needs) (walk rest) (c .insert .ensures) (omega (arith, counted found, c .before .if2 .taken)),
+    )
 
 loop-less-2 : tie.Need-loop-less-2 Inv-loop μ-loop
 loop-less-2 c = omega (arith, ap length (walk (c .before .before .before .before)))

@@ -76,10 +76,11 @@ loop-again-2 c =
     let named = found .before in
     let rest = named .before in
     let turn = rest .before .before .before .before in
-    let args = turn .before .before .before .before .args in
-    (turn .loop .inv .0,
+    let args = turn .before .before .before .before .args in (
+      turn .loop .inv .0,
       filtering-drops (turn .loop .inv .1) (search needs) (walk rest) (λ same. c .if2 .left
-      (found .note2 .ensures ∙ ap (λ (x : ℕ). getD (args .heres .now) x 0) (named .formula-at .ensures) ∙ same ∙ sym (turn .before .note .ensures))))
+          (found .note2 .ensures ∙ ap (λ (x : ℕ). getD (args .heres .now) x 0) (named .formula-at .ensures) ∙ same ∙ sym (turn .before .note .ensures))),
+    )
 
 returns : tie.Need-returns Inv-loop μ-loop
 returns c =
