@@ -18,7 +18,7 @@ use Rattle.atomset.proofs.Members.{member-members}
 use Rattle.atomset.proofs.SetOf.{member-setOf, setOf-lt}
 use Rattle.alike.specs.Truths.{placeOf}
 use Rattle.alike.specs.Survivors.{mostPlaces}
-use Rattle.alike.specs.Places.{mostAtomsNoted, Seated, SeatedAll, PlacesKept, OuterPlaces}
+use Rattle.alike.specs.Places.{mostAtomsNoted, Seated, SeatedAll, PlacesKept, SeatedToo, OuterPlaces}
 use Rattle.alike.proofs.Remaining.{member-insert, member-walk}
 use Rattle.alike.proofs.Words.{same-truth}
 
@@ -98,19 +98,39 @@ module _ (atoms : ℕ) where
 
 -- ---- places that are kept
 
-pub kept-same : {places : List ℕ} → PlacesKept places places
+kept-same : {places : List ℕ} → PlacesKept places places
 kept-same = record { long = refl; kept = λ p l. refl }
 
--- an atom that has none gets one
-pub kept-put : {before places : List ℕ} → PlacesKept before places → (p place : ℕ) → mostPlaces ≤ placeOf places p → {places′ : List ℕ}
-    → places′ ≡ set places p place → PlacesKept before places′
-kept-put {before} {places} k p place none {places′} put = record {
-  long = ap length put ∙ length-set places p place ∙ k .long;
-  kept = λ q l. ap (λ (ps : List ℕ). getD ps q 0) put ∙ getD-set-other places p q place 0 (other q l) ∙ k .kept q l;
+-- nothing is given, and nothing promised
+pub none-given : {places : List ℕ} {n atoms : ℕ} → SeatedToo atoms n places places false
+none-given = record { kept = kept-same; seated = λ e. absurd (false≢true e) }
+
+-- places were given, and will be, to atoms that had none
+pub record GivingSoFar (before places : List ℕ) (rest : ℕ) : Type 0 where
+  pub small : rest < 2 ^ 64
+  pub lacking : (p : ℕ) → Member p rest → mostPlaces ≤ placeOf before p
+  pub kept : PlacesKept before places
+
+pub giving-starts : {places : List ℕ} {rest : ℕ} → rest < 2 ^ 64 → ((p : ℕ) → Member p rest → mostPlaces ≤ placeOf places p) → GivingSoFar places places rest
+giving-starts small lacking = record { small = small; lacking = lacking; kept = kept-same }
+
+-- the first of the rest gets one
+pub giving-next : {before places : List ℕ} {rest : ℕ} → GivingSoFar before places rest → (p place : ℕ) → {rest′ : ℕ} → rest′ < 2 ^ 64
+    → members rest ≡ p ∷ members rest′ → {places′ : List ℕ} → places′ ≡ set places p place → GivingSoFar before places′ rest′
+giving-next {before} {places} {rest} s p place {rest′} small′ walk {places′} put = record {
+  small = small′;
+  lacking = λ q m. s .lacking q (its q .1 (inr m));
+  kept = record {
+    long = ap length put ∙ length-set places p place ∙ s .kept .long;
+    kept = λ q l. ap (λ (ps : List ℕ). getD ps q 0) put ∙ getD-set-other places p q place 0 (other q l) ∙ s .kept .kept q l;
+  };
 }
   where
+    its : (i : ℕ) → Member i rest ↔ ((i ≡ p) ⊎ Member i rest′)
+    its = member-walk rest p rest′ (s .small) small′ walk
+
     other : (q : ℕ) → placeOf before q < mostPlaces → q ≡ p → ⊥
-    other q l e = let same : placeOf places q ≡ placeOf places p = ap (placeOf places) e in omega (arith, k .kept q l, same)
+    other q l e = omega (arith, s .lacking q (its q .1 (inl e)))
 
 -- atoms that have places of their own keep them
 pub kept-seated : {before after : List ℕ} {n atoms : ℕ} → PlacesKept before after → n ≤ mostPlaces → Seated before n atoms → Seated after n atoms

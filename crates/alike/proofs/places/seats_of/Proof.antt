@@ -1,4 +1,4 @@
--- `alike::places::seats_apart` meets its contract: the atoms are looked at one by one. Assumes nothing.
+-- `alike::places::seats_of` meets its contract: the atoms are looked at one by one. Assumes nothing.
 use Prim.Native.Nat.{_^_, _<_}
 use native.Mathlib.Omega.{arith}
 use mathlib.Core.Bool.{true≢false, false≢true}
@@ -10,8 +10,8 @@ use lib.ListN.{length}
 use Rattle.atomset.specs.AtomSet.{members}
 use Rattle.atomset.proofs.Members.{walk-ends, walk-goes-on}
 use Rattle.alike.proofs.Seating.{ApartSoFar, apart-starts, apart-next, apart-ends}
-use Rattle.alike.proofs.places.seats_apart.Statement.{statement}
-use Rattle.alike.proofs.places.seats_apart.Tie as tie
+use Rattle.alike.proofs.places.seats_of.Statement.{statement}
+use Rattle.alike.proofs.places.seats_of.Tie as tie
 
 abbrev Inv-loop : tie.InvT-loop
 Inv-loop set width places used₀ rest₀ used rest = (used < 2 ^ 64) × ApartSoFar places width set used rest
@@ -72,8 +72,8 @@ loop-again c =
 returns-3 : tie.Need-returns-3 Inv-loop μ-loop
 returns-3 c = λ e. apart-ends (c .before .before .loop .inv .1) (walk-ends _ (sym (c .before .is-empty .ensures) ∙ not-false _ (c .if1 .left)))
 
-pub seats-apart-spec : {M : Type 1} → statement M
-seats-apart-spec =
+pub seats-of-spec : {M : Type 1} → statement M
+seats-of-spec =
     tie.close
     (tie.spec
     Inv-loop
