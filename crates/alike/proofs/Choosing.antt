@@ -2,28 +2,27 @@
 use Prim.Native.Nat.{ℕ, _^_, _≤_, _<_}
 use native.Mathlib.Omega.{arith}
 use mathlib.Core.Bool.{Bool, true, false, not, _&&_, false≢true}
-use mathlib.Core.List.{List, [], _∷_, _++_, List·Memᴰ·head, List·Memᴰ·not-nil, List·Memᴰ·append-cases}
+use mathlib.Core.List.{List, [], _∷_, List·Memᴰ·head, List·Memᴰ·not-nil, List·Memᴰ·append-cases}
 use mathlib.Core.Logic.{_⊎_, inl, inr, ⊎-elim, _↔_}
 use mathlib.Core.Path.{_≡_, refl, sym, ap, subst, _∙_}
 use lib.Bits.{bitOr}
 use lib.Dec.{eqb}
 use lib.ListN.{length, getD, take}
-use Rattle.equilibrium.specs.Formula.{Formula, atomsOf}
-use Rattle.equilibrium.specs.Meaning.{_∈_, _⊆_, Equal}
-use Rattle.equilibrium.proofs.EqualFormulas.{atomsOfBoth}
+use Rattle.equilibrium.specs.Formula.{atomsOf}
+use Rattle.equilibrium.specs.Meaning.{_∈_, Equal}
 use Rattle.format.specs.File.{Body, decodedAt}
 use Rattle.format.specs.Tables.{mostFormulas}
 use Rattle.format.proofs.GoodBodies.{good-held, in-getD}
-use Rattle.atomset.specs.AtomSet.{has, Member, Included, members}
+use Rattle.atomset.specs.AtomSet.{has, Member, members}
 use Rattle.atomset.proofs.Digits.{has-or}
 use Rattle.atomset.proofs.Membership.{member-union, member-difference}
 use Rattle.atomset.proofs.Members.{member-members, walk-ends}
 use Rattle.known.specs.Known.{AtomNotes}
 use Rattle.sides.specs.Deciding.{Decides}
-use Rattle.alike.specs.Under.{Marked, MarkedBefore, Listed}
-use Rattle.alike.specs.Survivors.{AlikeOver, Prepared, Remain, AlikeAll}
-use Rattle.alike.specs.Places.{Seated, SeatedAll, OuterPlaces}
-use Rattle.alike.specs.Alike.{CandidatesMarked, Bounded, Room, Held, OneEqual, SomeAlike, SomeEqual}
+use Rattle.alike.specs.Under.{MarkedBefore, Listed}
+use Rattle.alike.specs.Survivors.{AlikeOver, Prepared, AlikeAll}
+use Rattle.alike.specs.Places.{OuterPlaces}
+use Rattle.alike.specs.Alike.{atomsAt, CandidatesMarked, Bounded, Room, Held, OneEqual, BothSeated, SomeAlike, SomeEqual, Grouped, GroupJudged}
 use Rattle.alike.proofs.Remaining.{member-walk}
 use Rattle.alike.proofs.Covering.{alike-iff}
 
@@ -39,12 +38,11 @@ some-member set r e small = (λ n. by (members set) refl n, from r e)
     from true k (c, m) = absurd (List·Memᴰ·not-nil (subst (λ (ys : List ℕ). c ∈ ys) (walk-ends set (sym k)) (member-members set small c .0 m)))
     from false k s = refl
 
-module _ {formulas : List ℕ} {own set : ℕ} {side : List ℕ} {candidates : ℕ} {places marks list heres theres : List ℕ}
-    (fits : set < 2 ^ 64) (room : Room places marks list heres theres) {places′ : List ℕ} (seated : SeatedAll set places places′) {end : ℕ}
-    (bounded : Bounded own side end) {marks₁ marks₂ list′ : List ℕ} (own-marked : MarkedBefore own mostFormulas marks marks₁)
-    (all-marked : CandidatesMarked side candidates marks₁ marks₂) {n : ℕ} (listed : Listed formulas end marks₂ list′ n) {width outer : ℕ}
-    (counted : width ≡ length (members set)) (places-outer : OuterPlaces width outer) {kept : ℕ}
-    (alike : AlikeAll formulas (take n list′) places′ outer own side candidates heres theres kept) where
+module _ {formulas : List ℕ} {own : ℕ} {places side : List ℕ} {candidates : ℕ} {marks list heres theres : List ℕ}
+    (room : Room marks list heres theres) {end : ℕ} (bounded : Bounded own side end)
+    {marks₁ marks₂ list′ : List ℕ} (own-marked : MarkedBefore own mostFormulas marks marks₁) (all-marked : CandidatesMarked side candidates marks₁ marks₂)
+    {n : ℕ} (listed : Listed formulas end marks₂ list′ n) {width outer : ℕ} (places-outer : OuterPlaces width outer)
+    {kept : ℕ} (alike : AlikeAll formulas (take n list′) places outer own side candidates heres theres kept) where
   module _ (b : Body) (held : Held b formulas own side) (on-side : (c : ℕ) → Member c candidates → c < length side) where
     few : length (b .nodes) ≤ mostFormulas
     few = good-held (held .formulas-held .good) .few-nodes
@@ -64,14 +62,14 @@ module _ {formulas : List ℕ} {own set : ℕ} {side : List ℕ} {candidates : �
       there-room = room .theres-long;
     }
 
-    module _ (own-in : (p : ℕ) → p ∈ atomsOf (decodedAt (b .nodes) own) → Member p set)
-        (all-in : (c : ℕ) → Member c candidates → (p : ℕ) → p ∈ atomsOf (decodedAt (b .nodes) (getD side c 0)) → Member p set) where
+    module _ (both : (c : ℕ) → Member c candidates → BothSeated places width (decodedAt (b .nodes) own) (decodedAt (b .nodes) (getD side c 0))) where
       equal : (c : ℕ) → Member c candidates
-          → AlikeOver b places′ outer own (getD side c 0) ↔ Equal (decodedAt (b .nodes) own) (decodedAt (b .nodes) (getD side c 0))
+          → AlikeOver b places outer own (getD side c 0) ↔ Equal (decodedAt (b .nodes) own) (decodedAt (b .nodes) (getD side c 0))
       equal c m =
-          alike-iff places′ width outer set fits (omega (arith, places-outer .few)) (places-outer .its)
-          (subst (λ (k : ℕ). Seated places′ k set) (sym counted) (seated .seated)) b own (getD side c 0)
-          (λ p i. member-members set fits p .0 (⊎-elim (own-in p) (all-in c m p) (List·Memᴰ·append-cases (atomsOf (decodedAt (b .nodes) own)) i)))
+          let s = both c m in
+          alike-iff places width outer (s .set) (s .small) (omega (arith, places-outer .few)) (places-outer .its) (s .seated) b own (getD side c 0)
+          (λ p i. member-members (s .set) (s .small) p .0 (⊎-elim (s .in-first p) (s .in-second p)
+          (List·Memᴰ·append-cases (atomsOf (decodedAt (b .nodes) own)) i)))
 
       decided : (r : Bool) → r ≡ eqb (length (members kept)) 0 → kept < 2 ^ 64 → Decides (OneEqual b own side candidates) (not r)
       decided r e small =
@@ -82,14 +80,31 @@ module _ {formulas : List ℕ} {own set : ℕ} {side : List ℕ} {candidates : �
             complete = λ (c, m, q). some .1 (c, remain c .1 (m, equal c m .1 q));
           }
 
-  pub some-alike : (r : Bool) → r ≡ eqb (length (members kept)) 0 → kept < 2 ^ 64 → SomeAlike formulas own set side candidates (not r)
-  some-alike r e small = record { decides = λ b held on-side own-in all-in. decided b held on-side own-in all-in r e small }
+  pub some-alike : (r : Bool) → r ≡ eqb (length (members kept)) 0 → kept < 2 ^ 64 → SomeAlike formulas own places width side candidates (not r)
+  some-alike r e small = record { decides = λ b held on-side both. decided b held on-side both r e small }
 
 -- ---- candidates judged in groups
 
 -- the atoms of two sets
 pub member-or : (a b p : ℕ) → Member p (bitOr a b) ↔ (Member p a ⊎ Member p b)
 member-or a b = member-union a b (bitOr a b) (has-or a b)
+
+-- a group of candidates, by their atoms as noted
+module _ {formulas notes : List ℕ} {own atoms : ℕ} {side : List ℕ} {c pending width : ℕ} {before places : List ℕ} {group : ℕ}
+    (grouped : Grouped notes atoms side c pending width before places group) (fits : (x : ℕ) → bitOr atoms (getD notes x 0) < 2 ^ 64) where
+  pub group-judged : {r : Bool} → SomeAlike formulas own places width side group r → GroupJudged formulas notes own atoms side c pending group r
+  group-judged {r} answer = record {
+    its = grouped .its;
+    judged = record {
+      decides = λ b held noted own-atoms on-side. answer .decides b held on-side (λ d m. record {
+        set = atomsAt notes atoms side d;
+        small = fits (getD side d 0);
+        seated = grouped .seated d m;
+        in-first = λ p i. member-or atoms _ p .1 (inl (subst (Member p) (sym own-atoms) (noted own (held .own-known) p .1 i)));
+        in-second = λ p i. member-or atoms _ p .1 (inr (noted (getD side d 0) (held .side-known (getD side d 0) (in-getD side d 0 (on-side d m))) p .1 i));
+      });
+    };
+  }
 
 -- what is known of the tables
 pub record Settling (b : Body) (formulas notes : List ℕ) (own atoms : ℕ) (side : List ℕ) (narrow : ℕ) : Type 0 where
@@ -115,7 +130,8 @@ module _ {formulas notes : List ℕ} {own atoms : ℕ} {side : List ℕ} {narrow
   pub seeking-starts : narrow < 2 ^ 64 → Seeking formulas notes own atoms side narrow narrow narrow
   seeking-starts s = record { small = s; pending-small = s; pending-narrow = λ c m. m; pending-rest = λ c m. m; settled = λ b k c m. inl m }
 
-  module _ {pending rest : ℕ} (s : Seeking formulas notes own atoms side narrow pending rest) {c rest′ : ℕ} (small′ : rest′ < 2 ^ 64) (walk : members rest ≡ c ∷ members rest′) where
+  module _ {pending rest : ℕ} (s : Seeking formulas notes own atoms side narrow pending rest)
+      {c rest′ : ℕ} (small′ : rest′ < 2 ^ 64) (walk : members rest ≡ c ∷ members rest′) where
     its : (i : ℕ) → Member i rest ↔ ((i ≡ c) ⊎ Member i rest′)
     its = member-walk rest c rest′ (s .small) small′ walk
 
@@ -129,36 +145,27 @@ module _ {formulas notes : List ℕ} {own atoms : ℕ} {side : List ℕ} {narrow
       settled = s .settled;
     }
 
-    module _ {set together : ℕ} (set-is : set ≡ bitOr atoms (getD notes (getD side c 0) 0))
-        (group : Remain (λ d. Included (getD notes (getD side d 0) 0) set) pending together) {r : Bool} (answer : SomeAlike formulas own set side together r) where
-      decided-group : (b : Body) → Settling b formulas notes own atoms side narrow → Decides (OneEqual b own side together) r
+    module _ {group : ℕ} {r : Bool} (answer : GroupJudged formulas notes own atoms side c pending group r) where
+      decided-group : (b : Body) → Settling b formulas notes own atoms side narrow → Decides (OneEqual b own side group) r
       decided-group b k =
-          answer .decides b (k .held) (λ d m. k .on-side d (s .pending-narrow d (group d .0 m .0)))
-          (λ p i. subst (Member p) (sym set-is) (member-or atoms _ p .1 (inl (subst (Member p) (sym (k .own-atoms)) (k .noted own (k .held .own-known) p .1 i)))))
-          (λ d m p i.
-          let pend = group d .0 m in
-          let known = k .held .side-known (getD side d 0) (in-getD side d 0 (k .on-side d (s .pending-narrow d (pend .0)))) in
-          pend .1 p (k .noted (getD side d 0) known p .1 i))
+          answer .judged .decides b (k .held) (k .noted) (k .own-atoms) (λ d m. k .on-side d (s .pending-narrow d (answer .its .within d m)))
 
       -- none of its group is equal
-      pub seeking-goes-on : Member c pending → r ≡ false → {pending′ : ℕ} → pending′ < 2 ^ 64
-          → ((i : ℕ) → has pending′ i ≡ (has pending i && not (has together i))) → Seeking formulas notes own atoms side narrow pending′ rest′
-      seeking-goes-on here no-one {pending′} fits e = record {
+      pub seeking-goes-on : r ≡ false → {pending′ : ℕ} → pending′ < 2 ^ 64
+          → ((i : ℕ) → has pending′ i ≡ (has pending i && not (has group i))) → Seeking formulas notes own atoms side narrow pending′ rest′
+      seeking-goes-on no-one {pending′} fits e = record {
         small = small′;
         pending-small = fits;
         pending-narrow = λ d m. s .pending-narrow d (left d .0 m .0);
-        pending-rest = λ d m. ⊎-elim (λ (f : d ≡ c). absurd (left d .0 m .1 (subst (λ (x : ℕ). Member x together) (sym f) own-group))) (λ k. k)
+        pending-rest = λ d m. ⊎-elim (λ (f : d ≡ c). absurd (left d .0 m .1 (subst (λ (x : ℕ). Member x group) (sym f) (answer .its .own)))) (λ k. k)
             (its d .0 (s .pending-rest d (left d .0 m .0)));
-        settled = λ b k d m. ⊎-elim (λ i. by b k d i (has together d) refl) inr (s .settled b k d m);
+        settled = λ b k d m. ⊎-elim (λ i. by b k d i (has group d) refl) inr (s .settled b k d m);
       }
         where
-          left : (d : ℕ) → Member d pending′ ↔ (Member d pending × (Member d together → ⊥))
-          left = member-difference pending together pending′ e
+          left : (d : ℕ) → Member d pending′ ↔ (Member d pending × (Member d group → ⊥))
+          left = member-difference pending group pending′ e
 
-          own-group : Member c together
-          own-group = group c .1 (here, λ p i. subst (Member p) (sym set-is) (member-or atoms _ p .1 (inr i)))
-
-          by : (b : Body) → Settling b formulas notes own atoms side narrow → (d : ℕ) → Member d pending → (x : Bool) → has together d ≡ x
+          by : (b : Body) → Settling b formulas notes own atoms side narrow → (d : ℕ) → Member d pending → (x : Bool) → has group d ≡ x
               → Member d pending′ ⊎ (EqualAt b own side d → ⊥)
           by b k d i true t = inr (λ q. false≢true (sym no-one ∙ decided-group b k .complete (d, t, q)))
           by b k d i false t = inl (left d .1 (i, λ j. false≢true (sym t ∙ j)))
@@ -169,13 +176,14 @@ module _ {formulas notes : List ℕ} {own atoms : ℕ} {side : List ℕ} {narrow
         decides = λ b held noted own-atoms on-side. record {
           sound = λ t.
               let q = decided-group b (record { held = held; noted = noted; own-atoms = own-atoms; on-side = on-side }) .sound yes-one in
-              (q .0, s .pending-narrow (q .0) (group (q .0) .0 (q .1) .0), q .2);
+              (q .0, s .pending-narrow (q .0) (answer .its .within (q .0) (q .1)), q .2);
           complete = λ q. refl;
         };
       }
 
   -- all are settled
-  pub seeking-ends : {pending rest : ℕ} → Seeking formulas notes own atoms side narrow pending rest → members rest ≡ [] → SomeEqual formulas notes own atoms side narrow false
+  pub seeking-ends : {pending rest : ℕ} → Seeking formulas notes own atoms side narrow pending rest → members rest ≡ []
+      → SomeEqual formulas notes own atoms side narrow false
   seeking-ends {pending} {rest} s none = record {
     decides = λ b held noted own-atoms on-side. record {
       sound = λ t. absurd (false≢true t);

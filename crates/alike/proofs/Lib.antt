@@ -6,5 +6,6 @@ pub mod Words
 pub mod Surviving
 pub mod Covering
 pub mod Seating
+pub mod Grouping
 pub mod Choosing
 pub mod Numbers

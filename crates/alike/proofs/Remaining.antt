@@ -23,7 +23,7 @@ pub record Filtering (P : ℕ → Type 0) (alive kept rest : ℕ) : Type 0 where
   pub others : (c : ℕ) → Member c alive → P c → Member c kept ⊎ Member c rest
 
 -- one more in a set
-member-insert : (set p set′ : ℕ) → p < 64 → ((i : ℕ) → has set′ i ≡ (has set i || (eqb i p && ltb p 64))) → (i : ℕ) → Member i set′ ↔ (Member i set ⊎ (i ≡ p))
+pub member-insert : (set p set′ : ℕ) → p < 64 → ((i : ℕ) → has set′ i ≡ (has set i || (eqb i p && ltb p 64))) → (i : ℕ) → Member i set′ ↔ (Member i set ⊎ (i ≡ p))
 member-insert set p set′ l e i = (λ m. to (has set i) refl (sym (e i) ∙ m), ⊎-elim old own)
   where
     last : (eqb i p && ltb p 64) ≡ true → i ≡ p

@@ -1,12 +1,12 @@
 -- The number that a row of `swap` earns by its candidates for B: formulas that leave its sides right.
-use Prim.Native.Nat.{ℕ, _≤_, _<_}
+use Prim.Native.Nat.{ℕ, _^_, _≤_, _<_}
 use mathlib.Core.Bool.{Bool}
 use mathlib.Core.List.{List, [], _∷_}
 use mathlib.Core.Logic.{_↔_}
 use mathlib.Core.Path.{_≡_}
 use lib.Bits.{bitOr}
 use lib.ListN.{length, getD}
-use Rattle.equilibrium.specs.Formula.{atomsOf}
+use Rattle.equilibrium.specs.Formula.{Formula, atomsOf}
 use Rattle.equilibrium.specs.Meaning.{_∈_, Equal}
 use Rattle.elk.specs.Instance.{mostSwapped, Narrow}
 use Rattle.format.specs.File.{Body, decodedAt}
@@ -16,7 +16,11 @@ use Rattle.tables.specs.Holding.{Formulas}
 use Rattle.known.specs.Known.{AtomNotes}
 use Rattle.sides.specs.Deciding.{Decides}
 use Rattle.alike.specs.Under.{Marked}
-use Rattle.alike.specs.Places.{mostAtomsNoted}
+use Rattle.alike.specs.Places.{Seated}
+
+-- the atoms noted of candidate c, and these
+abbrev pub atomsAt : List ℕ → ℕ → List ℕ → ℕ → ℕ
+atomsAt notes atoms side c = bitOr atoms (getD notes (getD side c 0) 0)
 
 -- the atoms noted of formula x and these are few
 abbrev pub Few : List ℕ → ℕ → ℕ → Type 0
@@ -34,8 +38,7 @@ pub record Bounded (own : ℕ) (side : List ℕ) (n : ℕ) : Type 0 where
   pub past : (m : ℕ) → m ≤ mostFormulas → own < m → ((x : ℕ) → x ∈ side → x < m) → (own < n) × ((x : ℕ) → x ∈ side → x < n) × (n ≤ m)
 
 -- tables of their full lengths
-pub record Room (places marks list heres theres : List ℕ) : Type 0 where
-  pub places-long : length places ≡ mostAtomsNoted
+pub record Room (marks list heres theres : List ℕ) : Type 0 where
   pub marks-long : length marks ≡ mostFormulas
   pub list-long : length list ≡ mostFormulas
   pub heres-long : length heres ≡ mostFormulas
@@ -51,12 +54,19 @@ pub record Held (b : Body) (formulas : List ℕ) (own : ℕ) (side : List ℕ) :
 abbrev pub OneEqual : Body → ℕ → List ℕ → ℕ → Type 0
 OneEqual b own side candidates = (c : ℕ) × Member c candidates × Equal (decodedAt (b .nodes) own) (decodedAt (b .nodes) (getD side c 0))
 
--- the answer says whether one is, where all their atoms are in the set
-pub record SomeAlike (formulas : List ℕ) (own set : ℕ) (side : List ℕ) (candidates : ℕ) (r : Bool) : Type 0 where
+-- the atoms of two formulas are in a set of atoms that have places of their own below n
+pub record BothSeated (places : List ℕ) (n : ℕ) (A B : Formula) : Type 0 where
+  pub set : ℕ
+  pub small : set < 2 ^ 64
+  pub seated : Seated places n set
+  pub in-first : (p : ℕ) → p ∈ atomsOf A → Member p set
+  pub in-second : (p : ℕ) → p ∈ atomsOf B → Member p set
+
+-- the answer says whether one is, where the atoms of each, with the formula's, have places of their own
+pub record SomeAlike (formulas : List ℕ) (own : ℕ) (places : List ℕ) (n : ℕ) (side : List ℕ) (candidates : ℕ) (r : Bool) : Type 0 where
   pub decides :
       (b : Body) → Held b formulas own side → ((c : ℕ) → Member c candidates → c < length side)
-      → ((p : ℕ) → p ∈ atomsOf (decodedAt (b .nodes) own) → Member p set)
-      → ((c : ℕ) → Member c candidates → (p : ℕ) → p ∈ atomsOf (decodedAt (b .nodes) (getD side c 0)) → Member p set)
+      → ((c : ℕ) → Member c candidates → BothSeated places n (decodedAt (b .nodes) own) (decodedAt (b .nodes) (getD side c 0)))
       → Decides (OneEqual b own side candidates) r
 
 -- the same, by the atoms noted
@@ -64,6 +74,22 @@ pub record SomeEqual (formulas notes : List ℕ) (own atoms : ℕ) (side : List 
   pub decides :
       (b : Body) → Held b formulas own side → AtomNotes b notes → atoms ≡ getD notes own 0 → ((c : ℕ) → Member c candidates → c < length side)
       → Decides (OneEqual b own side candidates) r
+
+-- a group of the pending candidates has c
+pub record GroupOf (c pending group : ℕ) : Type 0 where
+  pub own : Member c group
+  pub within : (d : ℕ) → Member d group → Member d pending
+
+-- and the atoms noted of each of it, with these, have places of their own below n
+pub record Grouped (notes : List ℕ) (atoms : ℕ) (side : List ℕ) (c pending n : ℕ) (before after : List ℕ) (group : ℕ) : Type 0 where
+  pub long : length after ≡ length before
+  pub its : GroupOf c pending group
+  pub seated : (d : ℕ) → Member d group → Seated after n (atomsAt notes atoms side d)
+
+-- and the answer says whether one of it is equal to the formula
+pub record GroupJudged (formulas notes : List ℕ) (own atoms : ℕ) (side : List ℕ) (c pending group : ℕ) (r : Bool) : Type 0 where
+  pub its : GroupOf c pending group
+  pub judged : SomeEqual formulas notes own atoms side group r
 
 -- a formula of the side fits: it has few atoms together with A, and is equal to it
 abbrev pub OneFits : Body → ℕ → List ℕ → Type 0

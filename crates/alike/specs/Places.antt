@@ -1,5 +1,6 @@
 -- Atoms at places: where the atoms of two formulas have places of their own, the pairs of places are all pairs of these atoms.
 use Prim.Native.Nat.{ℕ, _^_, _≤_, _<_}
+use mathlib.Core.Bool.{Bool, true}
 use mathlib.Core.List.{List}
 use mathlib.Core.Logic.{_↔_}
 use mathlib.Core.Path.{_≡_}
@@ -25,6 +26,16 @@ mostAtomsNoted = 64
 pub record SeatedAll (set : ℕ) (before after : List ℕ) : Type 0 where
   pub long : length after ≡ length before
   pub seated : Seated after (length (members set)) set
+
+-- an atom that has a place keeps it
+pub record PlacesKept (before after : List ℕ) : Type 0 where
+  pub long : length after ≡ length before
+  pub kept : (p : ℕ) → placeOf before p < mostPlaces → placeOf after p ≡ placeOf before p
+
+-- so it is, and the answer is true only if the atoms of the set have places of their own below n
+pub record SeatedToo (set n : ℕ) (before after : List ℕ) (r : Bool) : Type 0 where
+  pub kept : PlacesKept before after
+  pub seated : r ≡ true → Seated after n set
 
 -- the places from 3 on below n, of at most 8
 pub record OuterPlaces (n set : ℕ) : Type 0 where

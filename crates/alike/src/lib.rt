@@ -1,5 +1,6 @@
 // Formulas that hold in the same here-and-there interpretations as one formula, among candidates that stand on a side. Candidates whose
-// atoms lie in one set of at most 8 are judged together: the formulas under them are listed once and judged in 64 pairs at a time.
+// atoms can be given places of their own, at most 8 of them, are judged together: the formulas under them are listed once and judged in
+// 64 pairs at a time.
 mod places;
 mod survivors;
 mod truths;
@@ -10,13 +11,14 @@ ghost use mathlib.Core.Logic.{_↔_};
 ghost use mathlib.Core.Path.{_≡_};
 ghost use lib.Bits.{bitOr};
 ghost use lib.ListN.{length, getD};
-ghost use Rattle.elk.specs.Instance.{mostSwapped};
-ghost use Rattle.format.specs.Tables.{mostFormulas};
-ghost use Rattle.atomset.specs.AtomSet.{Member, Included, members};
-ghost use Rattle.alike.specs.Survivors.{Remain};
-ghost use Rattle.alike.specs.Alike.{Few, CandidatesMarked, Bounded, Room, SomeAlike, SomeEqual, CandidatesNumbered};
+ghost use Rattle.atomset.specs.AtomSet.{Member};
+ghost use Rattle.alike.specs.Survivors.{mostPlaces, Remain};
+ghost use Rattle.alike.specs.Places.{Seated};
+ghost use Rattle.alike.specs.Alike.{atomsAt, Few, CandidatesMarked, Bounded, Room, SomeAlike, SomeEqual, Grouped, GroupJudged, CandidatesNumbered};
+use crate::places::NO_PLACE;
 use crate::places::outer_places;
 use crate::places::seat;
+use crate::places::seat_too;
 use crate::survivors::alike_all;
 use crate::survivors::formula_at;
 use crate::under::list_under;
@@ -27,8 +29,7 @@ use atomset::difference;
 use atomset::first;
 use atomset::insert;
 use atomset::is_empty;
-use atomset::is_subset;
-use atomset::union;
+use atomset::single;
 use atomset::without_first;
 use counts::limits::MOST_FORMULAS;
 use known::index::note;
@@ -37,6 +38,12 @@ use tables::records::wide;
 
 // The most atoms that two formulas of `swap` have together.
 const MOST_SWAPPED: usize = 8;
+
+// Candidates judged together, and whether one of them is equal to the formula.
+struct Group {
+    candidates: u64,
+    equal: bool,
+}
 
 // All entries of a side as candidates, as far as a word goes.
 fn all_of(side: &[u16]) -> u64
@@ -71,22 +78,6 @@ fn narrow_ones(notes: &[u64], atoms: u64, side: &[u16], alive: u64) -> u64
     kept
 }
 
-// The candidates whose atoms are in the set.
-fn within(notes: &[u64], set: u64, side: &[u16], alive: u64) -> u64
-    ensures { λ r. ⌜ Remain (λ c. Included (getD (now (notes .entry)) (getD (now (side .entry)) c 0) 0) set) alive r ⌝ }
-{
-    let mut kept = 0;
-    let mut rest = alive;
-    while !is_empty(rest) {
-        let c = first(rest);
-        rest = without_first(rest);
-        if is_subset(note(notes, formula_at(side, c)), set) {
-            kept = insert(kept, c);
-        }
-    }
-    kept
-}
-
 // Marks the formulas of the candidates.
 fn mark_candidates(side: &[u16], candidates: u64, marks: &mut [u8])
     ensures { λ _. ⌜ CandidatesMarked (now (side .entry)) candidates (now (marks .entry)) (now (marks .exit)) ⌝ }
@@ -115,23 +106,22 @@ fn end_of(own: usize, side: &[u16]) -> usize
     own + 1
 }
 
-// Whether one of the candidates, whose atoms are in the set as those of the formula, is equal to it; with room for the work.
+// Whether one of the candidates is equal to the formula, where the atoms of both have places of their own; with room for the work.
 fn alike_with(
     formulas: &[u16],
     own: usize,
-    set: u64,
+    places: &[u64],
+    width: usize,
     side: &[u16],
     candidates: u64,
-    places: &mut [u64],
     marks: &mut [u8],
     list: &mut [u16],
     heres: &mut [u64],
     theres: &mut [u64],
 ) -> bool
-    requires { ⌜ (length (members set) ≤ mostSwapped) × Room (now places) (now marks) (now list) (now heres) (now theres) ⌝ }
-    ensures { λ r. ⌜ SomeAlike (now (formulas .entry)) own set (now (side .entry)) candidates r ⌝ }
+    requires { ⌜ (width ≤ mostPlaces) × Room (now marks) (now list) (now heres) (now theres) ⌝ }
+    ensures { λ r. ⌜ SomeAlike (now (formulas .entry)) own (now (places .entry)) width (now (side .entry)) candidates r ⌝ }
 {
-    seat(set, places);
     let end = end_of(own, side);
     mark(marks, own, MOST_FORMULAS);
     mark_candidates(side, candidates, marks);
@@ -140,7 +130,7 @@ fn alike_with(
         formulas,
         &list[..n],
         places,
-        outer_places(count(set)),
+        outer_places(width),
         own,
         side,
         candidates,
@@ -151,11 +141,17 @@ fn alike_with(
 }
 
 // The same, with room for itself.
-fn some_alike(formulas: &[u16], own: usize, set: u64, side: &[u16], candidates: u64) -> bool
-    requires { ⌜ length (members set) ≤ mostSwapped ⌝ }
-    ensures { λ r. ⌜ SomeAlike (now (formulas .entry)) own set (now (side .entry)) candidates r ⌝ }
+fn some_alike(
+    formulas: &[u16],
+    own: usize,
+    places: &[u64],
+    width: usize,
+    side: &[u16],
+    candidates: u64,
+) -> bool
+    requires { ⌜ width ≤ mostPlaces ⌝ }
+    ensures { λ r. ⌜ SomeAlike (now (formulas .entry)) own (now (places .entry)) width (now (side .entry)) candidates r ⌝ }
 {
-    let mut places = [0u64; 64];
     let mut marks = [0u8; MOST_FORMULAS];
     let mut list = [0u16; MOST_FORMULAS];
     let mut heres = [0u64; MOST_FORMULAS];
@@ -163,15 +159,62 @@ fn some_alike(formulas: &[u16], own: usize, set: u64, side: &[u16], candidates: 
     alike_with(
         formulas,
         own,
-        set,
+        places,
+        width,
         side,
         candidates,
-        &mut places,
         &mut marks,
         &mut list,
         &mut heres,
         &mut theres,
     )
+}
+
+// The pending candidates whose atoms, with the formula's, have places of their own as candidate c's have, once more atoms have places.
+fn seat_group(
+    notes: &[u64],
+    atoms: u64,
+    side: &[u16],
+    c: usize,
+    pending: u64,
+    width: usize,
+    places: &mut [u64],
+) -> u64
+    requires { ⌜ (width ≤ mostPlaces) × Member c pending × Seated (now places) width (atomsAt (now notes) atoms (now side) c) ⌝ }
+    ensures { λ r. ⌜ Grouped (now (notes .entry)) atoms (now (side .entry)) c pending width (now (places .entry)) (now (places .exit)) r ⌝ }
+{
+    let mut group = single(c);
+    let mut rest = pending;
+    while !is_empty(rest) {
+        let d = first(rest);
+        rest = without_first(rest);
+        if seat_too(atoms_with(notes, atoms, formula_at(side, d)), width, places) {
+            group = insert(group, d);
+        }
+    }
+    group
+}
+
+// Judges candidate c, which has few atoms with the formula's own, and such pending ones as can be judged with it.
+fn judge_group(
+    formulas: &[u16],
+    notes: &[u64],
+    own: usize,
+    atoms: u64,
+    side: &[u16],
+    c: usize,
+    pending: u64,
+) -> Group
+    requires { ⌜ Member c pending × Few (now notes) atoms (getD (now side) c 0) ⌝ }
+    ensures { λ r. ⌜ GroupJudged (now (formulas .entry)) (now (notes .entry)) own atoms (now (side .entry)) c pending (r .candidates) (r .equal) ⌝ }
+{
+    let mut places = [NO_PLACE; 64];
+    let set = atoms_with(notes, atoms, formula_at(side, c));
+    let width = count(set);
+    seat(set, &mut places);
+    let candidates = seat_group(notes, atoms, side, c, pending, width, &mut places);
+    let equal = some_alike(formulas, own, &places, width, side, candidates);
+    Group { candidates, equal }
 }
 
 // Whether one of the candidates, all of which have few atoms with the formula's own, is equal to it.
@@ -192,12 +235,11 @@ fn some_equal(
         let c = first(rest);
         rest = without_first(rest);
         if contains(pending, c) {
-            let set = atoms_with(notes, atoms, formula_at(side, c));
-            let together = within(notes, set, side, pending);
-            if some_alike(formulas, own, set, side, together) {
+            let group = judge_group(formulas, notes, own, atoms, side, c, pending);
+            if group.equal {
                 return true;
             }
-            pending = difference(pending, together);
+            pending = difference(pending, group.candidates);
         }
     }
     false

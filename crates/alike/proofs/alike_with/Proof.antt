@@ -1,14 +1,10 @@
 -- `alike::alike_with` meets its contract. Assumes nothing.
-use native.Mathlib.Omega.{arith}
 use mathlib.Core.Path.{sym}
 use lib.Seq.{length-take-le}
 use Rattle.alike.proofs.Choosing.{some-alike}
 use borrow.Author.Needs.{needs}
 use Rattle.alike.proofs.alike_with.Statement.{statement}
 use Rattle.alike.proofs.alike_with.Tie as tie
-
-seat-requires : tie.Need-seat-requires
-seat-requires c κs = search needs
 
 end-of-requires : tie.Need-end-of-requires
 end-of-requires c κs = search needs
@@ -27,9 +23,6 @@ slice-reshare-prefix-alike-all c = search needs
 
 slice-aggregate-alike-all : tie.Need-slice-aggregate-alike-all
 slice-aggregate-alike-all c = sym (length-take-le _ _ (search needs))
-
-count-requires : tie.Need-count-requires
-count-requires c κs = search needs
 
 outer-places-requires : tie.Need-outer-places-requires
 outer-places-requires c κs = search needs
@@ -52,35 +45,28 @@ same-length-3 c = search needs
 same-length-4 : tie.Need-same-length-4
 same-length-4 c = search needs
 
-same-length-5 : tie.Need-same-length-5
-same-length-5 c = search needs
-
 returns : tie.Need-returns
 returns c =
     let judged = c .before .before .before .before .before in
     let outer = judged .before .before .before in
-    let width = outer .before in
-    let listed = width .before .before .before .before .before .before .before in
+    let listed = outer .before .before .before .before .before .before in
     let marked = listed .before .before .before .before .before in
     let own = marked .before .before .before .before in
     let end = own .before .before in
-    let seated = end .before .before .before in
-    let start = seated .before .before .before .before .before .before .before .before .before in
-    some-alike (search needs) (start .pre .1) (seated .seat .ensures) (end .end-of .ensures) (own .mark .ensures) (marked .mark-candidates .ensures)
-    (listed .list-under .ensures) (width .count .ensures) (outer .outer-places .ensures) (judged .alike-all .ensures) _ (c .is-empty .ensures) (search needs)
+    let start = end .before .before .before .before .before .before .before .before in
+    some-alike (start .pre .1) (end .end-of .ensures) (own .mark .ensures) (marked .mark-candidates .ensures) (listed .list-under .ensures)
+    (outer .outer-places .ensures) (judged .alike-all .ensures) _ (c .is-empty .ensures) (search needs)
 
 pub alike-with-spec : {M : Type 1} → statement M
 alike-with-spec =
     tie.close
     (tie.spec
-    seat-requires
     end-of-requires
     mark-requires
     mark-candidates-requires
     list-under-requires
     slice-reshare-prefix-alike-all
     slice-aggregate-alike-all
-    count-requires
     outer-places-requires
     alike-all-requires
     is-empty-requires
@@ -88,5 +74,4 @@ alike-with-spec =
     same-length-2
     same-length-3
     same-length-4
-    same-length-5
     returns)

@@ -1,13 +1,11 @@
 -- `alike::some_equal` meets its contract. The invariant of its loop: a candidate that is not pending is not equal. Assumes nothing.
-use Prim.Native.Nat.{ℕ}
 use native.Mathlib.Omega.{arith}
-use mathlib.Core.Bool.{true≢false, false≢true}
+use mathlib.Core.Bool.{true≢false}
 use mathlib.Core.List.{_∷_}
-use mathlib.Core.Path.{_≡_, sym, ap, subst, _∙_}
+use mathlib.Core.Path.{_≡_, sym, ap, _∙_}
 use borrow.Author.Needs.{needs}
 use borrow.Author.Tests.{not-true, not-false}
-use lib.Bits.{bitOr}
-use lib.ListN.{length, getD}
+use lib.ListN.{length}
 use Rattle.atomset.specs.AtomSet.{members}
 use Rattle.atomset.proofs.Members.{walk-ends, walk-goes-on}
 use Rattle.alike.proofs.Choosing.{Seeking, seeking-starts, seeking-passes, seeking-goes-on, seeking-finds, seeking-ends}
@@ -21,21 +19,12 @@ abbrev μ-loop : tie.MeasureT-loop
 μ-loop formulas notes own atoms side narrow pending₀ rest₀ pending rest = length (members rest)
 
 -- the next candidate, and the rest
-walk : (c : tie.After-without-first Inv-loop μ-loop) → members (c .before .before .before .before .loop .rest) ≡ c .before .first .result ∷ members (c .without-first .result)
+walk : (c : tie.After-without-first Inv-loop μ-loop)
+    → members (c .before .before .before .before .loop .rest) ≡ c .before .first .result ∷ members (c .without-first .result)
 walk c =
     let picked = c .before in
     walk-goes-on (picked .before .before .before .loop .rest) _ _ (sym (picked .before .before .is-empty .ensures) ∙ not-true _ (picked .before .if1 .taken))
     (picked .first .ensures) (c .without-first .ensures)
-
--- the atoms of the candidate with the formula's own
-its-set : (c : tie.After-atoms-with Inv-loop μ-loop)
-    → let rest = c .before .before .before .before in
-    let args = rest .before .before .before .before .before .before .before .before .args in
-    c .atoms-with .result ≡ bitOr (args .atoms) (getD (args .notes .now) (getD (args .side .now) (rest .before .first .result) 0) 0)
-its-set c =
-    let named = c .before in
-    let args = named .before .before .before .before .before .before .before .before .before .before .before .args in
-    c .atoms-with .ensures ∙ ap (λ (x : ℕ). bitOr (args .atoms) (getD (args .notes .now) x 0)) (named .formula-at .ensures)
 
 loop-holds : tie.Need-loop-holds Inv-loop μ-loop
 loop-holds c = seeking-starts (search needs)
@@ -52,50 +41,32 @@ without-first-requires c κs = search needs
 contains-requires : tie.Need-contains-requires Inv-loop μ-loop
 contains-requires c κs = search needs
 
-formula-at-requires : tie.Need-formula-at-requires Inv-loop μ-loop
-formula-at-requires c κs = search needs
-
-atoms-with-requires : tie.Need-atoms-with-requires Inv-loop μ-loop
-atoms-with-requires c κs = search needs
-
-within-requires : tie.Need-within-requires Inv-loop μ-loop
-within-requires c κs = search needs
-
-some-alike-requires : tie.Need-some-alike-requires Inv-loop μ-loop
-some-alike-requires c κs =
-    let joined = c .before in
-    let asked = joined .before .before .before in
-    let rest = asked .before in
-    let turn = rest .before .before .before .before in
-    let start = turn .before .before .before .before in
-    omega (
-      arith,
-      ap (λ (w : ℕ). length (members w)) (its-set joined),
-      start .pre _ (turn .loop .inv .pending-narrow _ (sym (asked .contains .ensures) ∙ joined .before .before .if2 .taken)),
-    )
+judge-group-requires : tie.Need-judge-group-requires Inv-loop μ-loop
+judge-group-requires c κs =
+    let turn = c .before .before .before .before .before .before in
+    let here = sym (c .before .contains .ensures) ∙ c .if2 .taken in
+    (here, turn .before .before .before .before .pre _ (turn .loop .inv .pending-narrow _ here))
 
 returns : tie.Need-returns Inv-loop μ-loop
 returns c =
-    let joined = c .before .before .before in
-    let rest = joined .before .before .before .before in
+    let judged = c .before in
+    let rest = judged .before .before .before in
     let turn = rest .before .before .before .before in
-    seeking-finds (turn .loop .inv) (search needs) (walk rest) (its-set joined) (c .before .before .within .ensures) (c .before .some-alike .ensures) (c .if3 .taken)
+    seeking-finds (turn .loop .inv) (search needs) (walk rest) (judged .judge-group .ensures) (c .if3 .taken)
 
 difference-requires : tie.Need-difference-requires Inv-loop μ-loop
 difference-requires c κs = search needs
 
 loop-less : tie.Need-loop-less Inv-loop μ-loop
-loop-less c = omega (arith, ap length (walk (c .before .before .before .before .before .before .before .before)))
+loop-less c = omega (arith, ap length (walk (c .before .before .before .before .before)))
 
 loop-again : tie.Need-loop-again Inv-loop μ-loop
 loop-again c =
     let judged = c .before .before in
-    let joined = judged .before .before in
-    let asked = joined .before .before .before in
-    let rest = asked .before in
+    let rest = judged .before .before .before in
     let turn = rest .before .before .before .before in
-    seeking-goes-on (turn .loop .inv) (search needs) (walk rest) (its-set joined) (judged .before .within .ensures) (judged .some-alike .ensures)
-    (sym (asked .contains .ensures) ∙ joined .before .before .if2 .taken) (c .before .if3 .left) (search needs) (c .difference .ensures)
+    seeking-goes-on (turn .loop .inv) (search needs) (walk rest) (judged .judge-group .ensures) (c .before .if3 .left) (search needs)
+    (c .difference .ensures)
 
 loop-less-2 : tie.Need-loop-less-2 Inv-loop μ-loop
 loop-less-2 c = omega (arith, ap length (walk (c .before .before)))
@@ -121,10 +92,7 @@ some-equal-spec =
     first-requires
     without-first-requires
     contains-requires
-    formula-at-requires
-    atoms-with-requires
-    within-requires
-    some-alike-requires
+    judge-group-requires
     returns
     difference-requires
     loop-less

@@ -1,31 +1,24 @@
 -- `alike::places::outer_places` meets its contract. Assumes nothing.
-use Prim.Native.Nat.{ℕ, _-_, _^_}
-use native.Mathlib.Omega.{arith}
+use Prim.Native.Nat.{ℕ}
 use mathlib.Core.Bool.{not, _&&_}
-use mathlib.Core.Path.{_≡_, ap, _∙_}
+use mathlib.Core.Path.{ap, _∙_}
 use borrow.Author.Needs.{needs}
-use lib.Pow.{pow-pos}
 use Rattle.atomset.specs.AtomSet.{has}
-use Rattle.atomset.proofs.Digits.{shl-one}
 use Rattle.alike.proofs.Seating.{outer-ones}
 use Rattle.alike.proofs.places.outer_places.Statement.{statement}
 use Rattle.alike.proofs.places.outer_places.Tie as tie
 
-shl-difference : tie.Need-shl-difference
-shl-difference c = omega (arith, c .pre)
-
-sub-difference : tie.Need-sub-difference
-sub-difference c = omega (arith, shl-one 64 (c .args .count) (omega (arith, c .pre)), pow-pos (c .args .count))
+below-requires : tie.Need-below-requires
+below-requires c κs = search needs
 
 difference-requires : tie.Need-difference-requires
 difference-requires c κs = search needs
 
 returns : tie.Need-returns
 returns c =
-    let start = c .before in
-    let n = start .args .count in
-    outer-ones n _ (start .pre) (search needs) (λ i.
-    c .difference .ensures i ∙ ap (λ (w : ℕ). has (w - 1) i && not (has 7 i)) (shl-one 64 n (omega (arith, start .pre))))
+    let start = c .before .before in
+    outer-ones (start .args .width) _ (start .pre) (search needs) (λ i.
+    c .difference .ensures i ∙ ap (λ (w : ℕ). has w i && not (has 7 i)) (c .before .below .ensures))
 
 pub outer-places-spec : {M : Type 1} → statement M
-outer-places-spec = tie.close (tie.spec shl-difference sub-difference difference-requires returns)
+outer-places-spec = tie.close (tie.spec below-requires difference-requires returns)
