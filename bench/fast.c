@@ -2,9 +2,10 @@
  * govelamuth.h, for little-endian machines, with the same answers and tables.
  *
  * It goes through the text once, and reads straight into the lent tables. What rules ask of a formula is worked out when its line is
- * read: the number of its negation, its atoms, and what it can be in unst. Sides are compared with two cursors. In swap the truth of a
- * formula is worked out for 256 pairs at once. A model is tried against one part of it after the other, with the truth of each formula
- * that the sheet rests on worked out in the order of the formulas. */
+ * read: the number of its negation, its atoms, and what it can be in unst. Sides are compared with two cursors. The formulas that B of
+ * swap can be are judged together, as far as they can, and what is under them is worked out for 243 pairs at once, or for 729. A model is
+ * tried against one part of it after the other, with the truth of each formula that the sheet rests on worked out in the order of the
+ * formulas. */
 #include <stdbool.h>
 #include <string.h>
 
@@ -107,16 +108,16 @@ struct traits {
 enum { WORD_BITS = 7, WORD_SLOTS = 1 << WORD_BITS, NAME_BITS = 7, NAME_SLOTS = 1 << NAME_BITS };
 enum { FORMULA_BITS = 11, FORMULA_SLOTS = 1 << FORMULA_BITS };
 
-/* A bit for each of 256 pairs (H,T) over up to 8 atoms. The pairs are numbered to base 3, with a digit for each atom: 0 if it is not in T,
- * 1 if it is in T alone, 2 if it is in H as well. 26 blocks hold the 3^8 pairs. Fewer atoms have fewer pairs, and these come again in the
- * rest of their last block. */
+/* A bit for each pair (H,T) over five places of atoms. The 243 pairs are numbered to base 3, with a digit for each place: 0 if its atoms are
+ * not in T, 1 if they are in T alone, 2 if they are in H as well. The first of them come again in the last 13 bits. */
 typedef uint64_t pairs __attribute__((vector_size(32)));
 
-enum { IN_BLOCK = 256, BLOCKS = 26 };
+enum { INNER = 5, IN_BLOCK = 243, BITS_OF_BLOCK = 256, BLOCKS = 3 };
 
-/* Where something holds: in (H,T), and in (T,T). */
-struct truth {
-    pairs here, there;
+/* Where something holds: in (H,T), and in (T,T). It fills a line of the cache. */
+struct block {
+    _Alignas(64) pairs here;
+    pairs there;
 };
 
 struct checker {
@@ -133,10 +134,10 @@ struct checker {
     /* Hash tables with linear probing; 0 is a free slot. */
     uint8_t word_slots[WORD_SLOTS], name_slots[NAME_SLOTS];
     uint32_t formula_slots[FORMULA_SLOTS];
-    uint32_t blocks; /* how many are filled */
+    bool places_filled;
     /* Last, since these are not cleared. */
     struct traits traits[FORMULAS];
-    struct truth atom_truth[BLOCKS][IN_SWAP];
+    struct block at_place[IN_SWAP][BLOCKS];
 };
 
 /* ---- fields: each reader takes a field and the byte that must end it, and tells whether both are as they should be. Every reader
@@ -602,34 +603,73 @@ static bool xini_step(const struct checker *c, struct sequent conclusion) {
     return ((plain[0] & plain[1]) | (negated[0] & negated[1]) | (plain[0] & negated[0])) == 0;
 }
 
-/* Fills the blocks up to this one. */
-static void fill_blocks(struct checker *c, uint32_t last) {
-    for (; c->blocks <= last; c->blocks++) {
-        uint64_t here[IN_SWAP][IN_BLOCK / 64] = {0}, there[IN_SWAP][IN_BLOCK / 64] = {0};
-        for (uint32_t i = 0; i < IN_BLOCK; i++)
-            for (uint32_t k = 0, digits = c->blocks * IN_BLOCK + i; k < IN_SWAP; k++, digits /= 3) {
-                here[k][i / 64] |= (uint64_t)(digits % 3 == 2) << i % 64;
-                there[k][i / 64] |= (uint64_t)(digits % 3 != 0) << i % 64;
-            }
-        for (uint32_t k = 0; k < IN_SWAP; k++) {
-            memcpy(&c->atom_truth[c->blocks][k].here, here[k], sizeof here[k]);
-            memcpy(&c->atom_truth[c->blocks][k].there, there[k], sizeof there[k]);
-        }
-    }
-}
-
-/* A formula that A or B rests on, with its parts by their places among these; or an atom by its digit. */
-struct plan {
-    uint16_t word, first, second;
+/* Candidates for B of swap, to be judged together with A. Atoms have places 0 to 7. Those of A and of any one candidate have places of their
+ * own, so that the pairs over the places are all pairs of theirs; atoms of several candidates may share one. */
+struct group {
+    uint32_t count;
+    uint16_t candidates[ON_SIDE];
+    uint8_t places[ON_SIDE]; /* of the atoms of A and of each candidate, as a set */
+    uint8_t all_places;
+    uint64_t seated;         /* the atoms that have a place */
+    uint8_t place[ATOMS];
 };
 
-/* Lists what A and B rest on, parts before wholes, with the two at last; and counts it. */
-static uint32_t plan_of(const struct checker *c, uint32_t a, uint32_t b, struct plan plan[FORMULAS], uint16_t place[FORMULAS]) {
-    uint64_t atoms = c->traits[a].occurring | c->traits[b].occurring;
-    uint32_t last = a > b ? a : b, count = 0;
+/* Whether atoms, 8 at most, can have places of their own, where some of them have one already. If so, each of the others takes the lowest
+ * that is free. */
+static bool seat(struct group *g, uint64_t atoms, uint8_t *places) {
+    uint32_t taken = 0;
+    for (uint64_t rest = atoms & g->seated; rest != 0; rest &= rest - 1) {
+        uint32_t place = 1u << g->place[__builtin_ctzll(rest)];
+        if ((taken & place) != 0)
+            return false;
+        taken |= place;
+    }
+    for (uint64_t rest = atoms & ~g->seated; rest != 0; rest &= rest - 1) {
+        g->place[__builtin_ctzll(rest)] = (uint8_t)__builtin_ctz(~taken);
+        taken |= taken + 1;
+    }
+    g->seated |= atoms;
+    *places = (uint8_t)taken;
+    return true;
+}
+
+/* Moves waiting candidates into a group, as far as they can share places; the others still wait, and are counted. The atoms of A have the
+ * first places, so that candidates with few others are done early. */
+static uint32_t gather(const struct checker *c, uint32_t a, uint16_t *waiting, uint32_t count, struct group *g) {
+    uint64_t own = c->traits[a].occurring;
+    uint32_t left = 0;
+    g->count = 0;
+    g->all_places = 0;
+    g->seated = 0;
+    seat(g, own, &g->places[0]);
+    for (uint32_t i = 0; i < count; i++) {
+        uint16_t b = waiting[i];
+        if (seat(g, own | c->traits[b].occurring, &g->places[g->count])) {
+            g->all_places |= g->places[g->count];
+            g->candidates[g->count++] = b;
+        } else
+            waiting[left++] = b;
+    }
+    return left;
+}
+
+/* A formula to be judged, with its parts; or an atom, with its place. */
+struct step {
+    uint16_t formula, word, first, second;
+};
+
+/* Lists what A and the candidates rest on, parts before wholes, up to the end of the table, and gives the first. Parts have smaller
+ * numbers than wholes, so that one pass down finds them all. */
+static const struct step *list_steps(const struct checker *c, uint32_t a, const struct group *g, struct step steps[FORMULAS]) {
+    uint32_t last = a;
+    for (uint32_t i = 0; i < g->count; i++)
+        last = g->candidates[i] > last ? g->candidates[i] : last;
     bool needed[FORMULAS];
     memset(needed, false, last + 1);
-    needed[a] = needed[b] = true;
+    needed[a] = true;
+    for (uint32_t i = 0; i < g->count; i++)
+        needed[g->candidates[i]] = true;
+    struct step *first = steps + FORMULAS;
     for (uint32_t f = last + 1; f-- > 0;)
         if (needed[f]) {
             struct node n = c->nodes[f];
@@ -637,62 +677,161 @@ static uint32_t plan_of(const struct checker *c, uint32_t a, uint32_t b, struct 
                 needed[n.first] = true;
             if (n.word >= AND)
                 needed[n.second] = true;
+            *--first = (struct step){(uint16_t)f, n.word, n.word == ATOM ? g->place[n.first] : n.first % FORMULAS, n.second % FORMULAS};
         }
-    for (uint32_t f = 0; f <= last; f++)
-        if (needed[f]) {
-            struct node n = c->nodes[f];
-            struct plan p = {.word = n.word};
-            if (n.word == ATOM)
-                p.first = (uint16_t)__builtin_popcountll(atoms & ((1ULL << n.first) - 1));
-            if (n.word >= NOT)
-                p.first = place[n.first];
-            if (n.word >= AND)
-                p.second = place[n.second];
-            place[f] = (uint16_t)count;
-            plan[count++] = p;
-        }
-    return count;
+    return first;
 }
 
-/* Whether A and B, over 8 atoms or fewer, hold in the same pairs. */
-static bool equal(struct checker *c, uint32_t a, uint32_t b) {
-    struct plan plan[FORMULAS];
-    uint16_t place[FORMULAS];
-    struct truth truth[FORMULAS];
-    uint32_t count = plan_of(c, a, b, plan, place), pair_count = 1;
-    for (uint64_t atoms = c->traits[a].occurring | c->traits[b].occurring; atoms != 0; atoms &= atoms - 1)
-        pair_count *= 3;
-    for (uint32_t block = 0; block * IN_BLOCK < pair_count; block++) {
-        if (block == c->blocks)
-            fill_blocks(c, block);
-        for (uint32_t i = 0; i < count; i++) {
-            const struct truth *x = &truth[plan[i].first], *y = &truth[plan[i].second];
-            switch (plan[i].word) {
-            case BOT:
-                truth[i] = (struct truth){0};
-                break;
-            case ATOM:
-                truth[i] = c->atom_truth[block][plan[i].first];
-                break;
-            case NOT:
-                truth[i].here = truth[i].there = ~x->there;
-                break;
-            case AND:
-                truth[i] = (struct truth){x->here & y->here, x->there & y->there};
-                break;
-            case OR:
-                truth[i] = (struct truth){x->here | y->here, x->there | y->there};
-                break;
-            case IMP:
-                truth[i].there = ~x->there | y->there;
-                truth[i].here = truth[i].there & (~x->here | y->here);
-                break;
-            }
+/* A place that has one digit in all pairs of a block. */
+static struct block constant(uint32_t digit) {
+    return (struct block){.here = (pairs){0} - (uint64_t)(digit == 2), .there = (pairs){0} - (uint64_t)(digit != 0)};
+}
+
+/* Fills the first six places, which stay as they are. */
+static void fill_places(struct checker *c) {
+    uint64_t here[INNER][BITS_OF_BLOCK / 64] = {0}, there[INNER][BITS_OF_BLOCK / 64] = {0};
+    for (uint32_t i = 0; i < BITS_OF_BLOCK; i++)
+        for (uint32_t p = 0, digits = i % IN_BLOCK; p < INNER; p++, digits /= 3) {
+            here[p][i / 64] |= (uint64_t)(digits % 3 == 2) << i % 64;
+            there[p][i / 64] |= (uint64_t)(digits % 3 != 0) << i % 64;
         }
-        if (memcmp(&truth[place[a]].here, &truth[place[b]].here, sizeof(pairs)) != 0)
-            return false;
+    for (uint32_t b = 0; b < BLOCKS; b++) {
+        for (uint32_t p = 0; p < INNER; p++) {
+            memcpy(&c->at_place[p][b].here, here[p], sizeof here[p]);
+            memcpy(&c->at_place[p][b].there, there[p], sizeof there[p]);
+        }
+        c->at_place[INNER][b] = constant(b);
     }
-    return true;
+    c->places_filled = true;
+}
+
+/* The other places have one digit throughout a round. */
+static void set_outer_places(struct checker *c, uint32_t round) {
+    for (uint32_t p = INNER + 1; p < IN_SWAP; p++, round /= 3)
+        for (uint32_t b = 0; b < BLOCKS; b++)
+            c->at_place[p][b] = constant(round % 3);
+}
+
+/* Works out the truth of each formula, in so many blocks: one over five places; three over more, for the digits of the sixth. These do
+ * not wait for each other, as a formula does for its part just before it. */
+static inline __attribute__((always_inline)) void judge_steps(const struct step *step, const struct step *end, uint32_t blocks,
+                                                              const struct block (*at_place)[BLOCKS], struct block *truth) {
+    for (; step < end; step++) {
+        const struct block *x = truth + step->first * blocks, *y = truth + step->second * blocks;
+        struct block *whole = truth + step->formula * blocks;
+        switch (step->word) {
+        case BOT:
+            for (uint32_t b = 0; b < blocks; b++)
+                whole[b] = constant(0);
+            break;
+        case ATOM:
+            for (uint32_t b = 0; b < blocks; b++)
+                whole[b] = at_place[step->first][b];
+            break;
+        case NOT:
+            for (uint32_t b = 0; b < blocks; b++)
+                whole[b].here = whole[b].there = ~x[b].there;
+            break;
+        case AND:
+            for (uint32_t b = 0; b < blocks; b++) {
+                whole[b].here = x[b].here & y[b].here;
+                whole[b].there = x[b].there & y[b].there;
+            }
+            break;
+        case OR:
+            for (uint32_t b = 0; b < blocks; b++) {
+                whole[b].here = x[b].here | y[b].here;
+                whole[b].there = x[b].there | y[b].there;
+            }
+            break;
+        case IMP:
+            for (uint32_t b = 0; b < blocks; b++) {
+                whole[b].there = ~x[b].there | y[b].there;
+                whole[b].here = whole[b].there & (~x[b].here | y[b].here);
+            }
+            break;
+        }
+    }
+}
+
+static inline bool differ(const struct block *x, const struct block *y, uint32_t blocks) {
+    pairs in = {0};
+    for (uint32_t b = 0; b < blocks; b++)
+        in |= x[b].here ^ y[b].here;
+    return (in[0] | in[1] | in[2] | in[3]) != 0;
+}
+
+/* Drops the candidates that differ from A. */
+static inline void drop_different(struct group *g, uint32_t a, uint32_t blocks, const struct block *truth) {
+    uint32_t alive = 0;
+    for (uint32_t i = 0; i < g->count; i++)
+        if (!differ(truth + a * blocks, truth + g->candidates[i] * blocks, blocks)) {
+            g->candidates[alive] = g->candidates[i];
+            g->places[alive++] = g->places[i];
+        }
+    g->count = alive;
+}
+
+/* Whether a candidate has none but the first places. */
+static bool any_within(const struct group *g, uint32_t width) {
+    for (uint32_t i = 0; i < g->count; i++)
+        if (g->places[i] >> width == 0)
+            return true;
+    return false;
+}
+
+/* Whether a candidate of the group holds in the same pairs as A. The first round goes through all pairs over six places, three rounds over
+ * seven and nine over eight; a candidate that is left when its places are through is equal. What is under the candidates is listed again
+ * when half of them are gone. */
+static bool any_equal(struct checker *c, uint32_t a, struct group *g) {
+    struct step steps[FORMULAS];
+    struct block truth[FORMULAS * BLOCKS];
+    const struct step *first = NULL, *end = steps + FORMULAS;
+    uint32_t listed = 2 * ON_SIDE, width = INNER + 1, rounds_of_width = 1;
+    bool narrow = g->all_places >> INNER == 0;
+    if (!c->places_filled)
+        fill_places(c);
+    for (uint32_t round = 0; g->count > 0; round++) {
+        if (g->count <= listed / 2) {
+            first = list_steps(c, a, g, steps);
+            listed = g->count;
+        }
+        if (narrow) {
+            judge_steps(first, end, 1, c->at_place, truth);
+            drop_different(g, a, 1, truth);
+        } else {
+            set_outer_places(c, round);
+            judge_steps(first, end, BLOCKS, c->at_place, truth);
+            drop_different(g, a, BLOCKS, truth);
+        }
+        if (round + 1 == rounds_of_width) {
+            if (any_within(g, width))
+                return true;
+            width++;
+            rounds_of_width *= 3;
+        }
+    }
+    return false;
+}
+
+/* The number of a row, by the candidates for B that leave its sides right. */
+static uint32_t judge_candidates(struct checker *c, uint32_t a, struct side candidates) {
+    uint16_t waiting[ON_SIDE];
+    uint32_t count = 0;
+    for (uint32_t i = 0; i < candidates.count; i++)
+        if (__builtin_popcountll(c->traits[a].occurring | c->traits[candidates.at[i]].occurring) <= IN_SWAP) {
+            if (candidates.at[i] == a)
+                return ACCEPTED;
+            waiting[count++] = candidates.at[i];
+        }
+    uint32_t refusal = count < candidates.count ? TOO_MANY_ATOMS : WRONG_STEP;
+    while (count > 0) {
+        struct group g;
+        count = gather(c, a, waiting, count, &g);
+        if (any_equal(c, a, &g))
+            return ACCEPTED;
+    }
+    return refusal;
 }
 
 /* L,B => R gives L,A => R, where A and B hold in the same pairs. B is what the premise's left has more than the conclusion's; if there is
@@ -714,15 +853,7 @@ static uint32_t swap_step(struct checker *c, uint32_t a, struct sequent conclusi
             j++;
         }
     }
-    bool wide = false;
-    for (uint32_t i = 0; i < candidates.count; i++) {
-        uint32_t b = candidates.at[i];
-        if (__builtin_popcountll(c->traits[a].occurring | c->traits[b].occurring) > IN_SWAP)
-            wide = true;
-        else if (a == b || equal(c, a, b))
-            return ACCEPTED;
-    }
-    return wide ? TOO_MANY_ATOMS : WRONG_STEP;
+    return judge_candidates(c, a, candidates);
 }
 
 static uint32_t judge_row(struct checker *c, const struct row *r, bool named, uint32_t premises) {

@@ -367,11 +367,15 @@ static void slow_swap(struct file *f, const struct choice *c, int a) {
     row(f, "swap", a, c->first, NONE, with(c->from, a), one(c->from.formulas[0]));
 }
 
+static void accept(struct file *f, const struct choice *c, int rounds) {
+    for (int i = 0; i < rounds; i++)
+        slow_swap(f, c, c->fits);
+    close_with(f, 0);
+}
+
 static void accepted_swaps(struct file *f, int atoms, int rounds) {
     struct choice c = slow_choice(f, atoms);
-    for (int i = 0; i < rounds; i++)
-        slow_swap(f, &c, c.fits);
-    close_with(f, 0);
+    accept(f, &c, rounds);
 }
 
 /* The same with a last row that is refused. */
@@ -380,6 +384,83 @@ static void refused_swaps(struct file *f, int atoms, int rounds) {
     for (int i = 1; i < rounds; i++)
         slow_swap(f, &c, c.fits);
     slow_swap(f, &c, c.differs);
+}
+
+/* Sets of six of twelve atoms, against checkers that judge candidates together where their atoms can share places. By turns they are a set
+ * and the rest. These two share six places, in rising order; all later ones then have two atoms at one place, so that two at a time is the
+ * most, and two can always share places. */
+enum { OWN = 6, POOL = 2 * OWN, WHOLE_POOL = (1 << POOL) - 1 };
+
+/* The next number with as many bits. */
+static unsigned next_set(unsigned set) {
+    unsigned lowest = set & -set, carried = set + lowest;
+    return carried | (set ^ carried) / lowest >> 2;
+}
+
+/* Whether the second set has two atoms at one place, where the first and its rest share the places. */
+static bool clash(unsigned first, unsigned second) {
+    bool found = false;
+    for (unsigned rest = WHOLE_POOL & ~first; rest != 0; first &= first - 1, rest &= rest - 1)
+        found = found || ((second & first & -first) != 0 && (second & rest & -rest) != 0);
+    return found;
+}
+
+static void clashing_sets(unsigned *sets, int count) {
+    unsigned set = (1u << OWN) - 1;
+    for (int found = 0; found < count; set = next_set(set)) {
+        bool clashes = true;
+        for (int i = 0; i < found; i += 2)
+            clashes = clashes && clash(sets[i], set);
+        if (clashes) {
+            sets[found++] = set;
+            if (found < count)
+                sets[found++] = WHOLE_POOL & ~set;
+        }
+    }
+}
+
+/* The conjunction of a set of atoms, nested to the right; sets share what they end in. */
+static int joint(struct file *f, const int *atoms, unsigned set, int *known) {
+    unsigned others = set & (set - 1);
+    int lowest = atoms[__builtin_ctz(set)];
+    if (others == 0)
+        return lowest;
+    if (known[set] == 0) {
+        int rest = joint(f, atoms, others, known);
+        known[set] = formula(f, "and", lowest, rest);
+    }
+    return known[set];
+}
+
+/* All formulas to choose from rest on the same hundreds of others, over two more atoms. The last never holds, as the one that fits; the
+ * others hold in the one pair in which H has all of their atoms. */
+static struct choice clashing_choice(struct file *f) {
+    static const char *const words[] = {"and", "or", "imp"};
+    enum { COMMON = IN_SWAP - OWN, CHOICE = MOST_ON_SIDE - 1 };
+    unsigned sets[CHOICE];
+    int p[COMMON], pool[POOL], held[CHOICE], known[WHOLE_POOL + 1] = {0};
+    for (int i = 0; i < COMMON; i++)
+        p[i] = atom(f);
+    for (int i = 0; i < POOL; i++)
+        pool[i] = atom(f);
+    clashing_sets(sets, CHOICE);
+    for (int i = 0; i < CHOICE; i++)
+        held[i] = joint(f, pool, sets[i], known);
+    int bot = formula(f, "bot", NONE, NONE), every = joined(f, p, COMMON);
+    int length = MOST_FORMULAS - f->formulas - CHOICE - 3, newest = p[0];
+    for (int i = 0; i < length; i++)
+        newest = formula(f, words[i % 3], i % 2 ? p[i / 2 % COMMON] : newest, i % 2 ? newest : p[i / 2 % COMMON]);
+    int common = formula(f, "and", every, formula(f, "imp", bot, newest));
+    struct choice c = {.fits = formula(f, "and", newest, bot)};
+    for (int i = 0; i < CHOICE; i++)
+        c.from = with(c.from, formula(f, "and", i + 1 < CHOICE ? common : c.fits, held[i]));
+    c.first = row(f, "same", c.from.formulas[0], NONE, NONE, c.from, one(c.from.formulas[0]));
+    return c;
+}
+
+static void clashing_swaps(struct file *f, int rounds) {
+    struct choice c = clashing_choice(f);
+    accept(f, &c, rounds);
 }
 
 const struct shape shapes[SHAPES] = {
@@ -406,6 +487,7 @@ const struct shape slow_swaps[SLOW_SWAPS] = {
     {"accepted", .write_over = accepted_swaps, .atoms = IN_SWAP, .in_runs = true, .filled_in_runs = true},
     {"refused", .write_over = refused_swaps, .atoms = IN_SWAP, .in_runs = true, .filled_in_runs = true, .number = ELK_WRONG_STEP},
     {"own atoms", .write_over = accepted_swaps, .atoms = 64, .in_runs = true, .filled_in_runs = true},
+    {"clashing atoms", .write = clashing_swaps, .in_runs = true, .filled_in_runs = true},
 };
 
 const struct long_line long_lines[LONG_LINES] = {

@@ -41,7 +41,7 @@ struct shape {
     int atoms;
 };
 
-enum { SHAPES = 9, SLOW_MODELS = 5, SLOW_SWAPS = 3, LONG_LINES = 3 };
+enum { SHAPES = 9, SLOW_MODELS = 5, SLOW_SWAPS = 4, LONG_LINES = 3 };
 
 extern const struct shape shapes[SHAPES], slow_models[SLOW_MODELS], slow_swaps[SLOW_SWAPS];
 
