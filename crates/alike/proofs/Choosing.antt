@@ -1,7 +1,7 @@
 -- One of some candidates is equal to a formula: by the candidates that are left when all pairs of places are gone through.
 use Prim.Native.Nat.{ℕ, _^_, _≤_, _<_}
 use native.Mathlib.Omega.{arith}
-use mathlib.Core.Bool.{Bool, true, false, not, _&&_, false≢true}
+use mathlib.Core.Bool.{Bool, true, false, not, _&&_, false≢true, true≢false}
 use mathlib.Core.List.{List, [], _∷_, List·Memᴰ·head, List·Memᴰ·not-nil, List·Memᴰ·append-cases}
 use mathlib.Core.Logic.{_⊎_, inl, inr, ⊎-elim, _↔_}
 use mathlib.Core.Path.{_≡_, refl, sym, ap, subst, _∙_}
@@ -37,6 +37,16 @@ some-member set r e small = (λ n. by (members set) refl n, from r e)
     from : (r : Bool) → r ≡ eqb (length (members set)) 0 → (c : ℕ) × Member c set → not r ≡ true
     from true k (c, m) = absurd (List·Memᴰ·not-nil (subst (λ (ys : List ℕ). c ∈ ys) (walk-ends set (sym k)) (member-members set small c .0 m)))
     from false k s = refl
+
+-- the first member of a set that has one
+pub some-first : (set first : ℕ) → eqb (length (members set)) 0 ≡ false → set < 2 ^ 64 → first ≡ getD (members set) 0 64 → Member first set
+some-first set first e small is = by (members set) refl
+  where
+    by : (xs : List ℕ) → members set ≡ xs → Member first set
+    by [] k = absurd (true≢false (sym (ap (λ (ys : List ℕ). eqb (length ys) 0) k) ∙ e))
+    by (x ∷ xs) k =
+        let here = is ∙ ap (λ (ys : List ℕ). getD ys 0 64) k in
+        member-members set small first .1 (subst (λ (ys : List ℕ). first ∈ ys) (sym k) (List·Memᴰ·head here))
 
 module _ {formulas : List ℕ} {own : ℕ} {places side : List ℕ} {candidates : ℕ} {marks list heres theres : List ℕ}
     (room : Room marks list heres theres) {end : ℕ} (bounded : Bounded own side end)
@@ -180,6 +190,18 @@ module _ {formulas notes : List ℕ} {own atoms : ℕ} {side : List ℕ} {narrow
           complete = λ q. refl;
         };
       }
+
+  -- one of the first group is
+  pub seeking-finds-first : {c group : ℕ} {r : Bool} → GroupJudged formulas notes own atoms side c narrow group r → r ≡ true
+      → SomeEqual formulas notes own atoms side narrow true
+  seeking-finds-first answer e = record {
+    decides = λ b held noted own-atoms on-side. record {
+      sound = λ t.
+          let q = answer .judged .decides b held noted own-atoms (λ d m. on-side d (answer .its .within d m)) .sound e in
+          (q .0, answer .its .within (q .0) (q .1), q .2);
+      complete = λ q. refl;
+    };
+  }
 
   -- all are settled
   pub seeking-ends : {pending rest : ℕ} → Seeking formulas notes own atoms side narrow pending rest → members rest ≡ []

@@ -1,6 +1,6 @@
 -- Where the atoms of two formulas have places of their own, they hold alike in all pairs of places exactly if they hold alike in all
 -- pairs of sets.
-use Prim.Native.Nat.{ℕ, zero, suc, _+_, _*_, _/_, _%_, _^_, _≤_, _<_}
+use Prim.Native.Nat.{ℕ, _+_, _*_, _/_, _%_, _^_, _≤_, _<_}
 use native.Mathlib.Decide.{ℕ-discrete, decLt, decLe}
 use native.Mathlib.Omega.{arith}
 use mathlib.Core.Bool.{Bool, true, false, cond, _&&_, false≢true}
@@ -9,17 +9,15 @@ use mathlib.Core.Logic.{⊎-elim, _↔_}
 use mathlib.Core.Path.{_≡_, refl, sym, ap, ap₂, subst, _∙_}
 use borrow.Author.Tests.{lt-ltb, le-ltb}
 use lib.Dec.{eqb, ltb}
-use lib.ListN.{length}
 use Rattle.equilibrium.specs.Formula.{Formula}
 use Rattle.equilibrium.specs.Meaning.{_∈_, _⊆_, Holds, Equal}
 use Rattle.equilibrium.proofs.Sets.{dec-in, those, in-those}
-use Rattle.equilibrium.proofs.Satisfaction.{Agree}
 use Rattle.equilibrium.proofs.EqualFormulas.{atomsOfBoth, alike, equal-over}
 use Rattle.format.specs.File.{Body, decodedAt}
 use Rattle.atomset.specs.AtomSet.{has, Member, members, setOf}
 use Rattle.atomset.proofs.Membership.{member-lt}
 use Rattle.atomset.proofs.Members.{member-members}
-use Rattle.atomset.proofs.SetOf.{member-setOf, setOf-lt}
+use Rattle.atomset.proofs.SetOf.{member-setOf}
 use Rattle.pairs.specs.Pairs.{holdsIn}
 use Rattle.pairs.specs.Parts.{part}
 use Rattle.pairs.proofs.Pairs.{Says, says-and, holds-in-iff}
@@ -66,7 +64,8 @@ here-there t n small s j = by (ltb s 3)
     by true e = first (has j (2 * s + 1)) (has j (2 * s)) e
     by false e = member-members t small s .1 (part-inside n (members t) s (member-setOf (part n (members t)) s .0 e))
 
-module _ (places : List ℕ) (width outer set : ℕ) (fits : set < 2 ^ 64) (small : outer < 2 ^ 64) (its : Outer width outer) (seated : Seated places width set) where
+module _ (places : List ℕ) (width outer set : ℕ) (fits : set < 2 ^ 64) (small : outer < 2 ^ 64) (its : Outer width outer)
+    (seated : Seated places width set) where
   -- the places of some atoms
   abbrev at : List ℕ → List ℕ
   at X = map (placeOf places) X

@@ -71,7 +71,8 @@ module _ {notes : List ℕ} {atoms : ℕ} {side : List ℕ} {c pending n : ℕ} 
           own = put c .1 (inl (s .so-far .its .own));
           within = λ i m. ⊎-elim (s .so-far .its .within i) (λ (e : i ≡ d). subst (λ (x : ℕ). Member x pending) (sym e) (s .rest-in d here)) (put i .0 m);
         };
-        seated = λ i m. ⊎-elim (grouping-passes .so-far .seated i) (λ (e : i ≡ d). subst (λ (x : ℕ). Seated places′ n (atomsAt notes atoms side x)) (sym e) own)
+        seated = λ i m. ⊎-elim (grouping-passes .so-far .seated i)
+            (λ (e : i ≡ d). subst (λ (x : ℕ). Seated places′ n (atomsAt notes atoms side x)) (sym e) own)
             (put i .0 m);
       };
     }

@@ -22,7 +22,8 @@ pub falls-after : (xs : List ℕ) → Falling xs → (k : ℕ) → k < length xs
 falls-after [] f k l y m s = absurd (List·Memᴰ·not-nil m)
 falls-after (x ∷ xs) f zero l y m s = ⊎-elim (λ (e : y ≡ x). absurd (omega arith)) (λ i. i) (List·Memᴰ·cases-cons m)
 falls-after (x ∷ xs) f (suc k) l y m s =
-    ⊎-elim (λ (e : y ≡ x). absurd (omega (arith, f .0 (getD xs k 0) (in-getD xs k 0 (omega arith))))) (λ i. falls-after xs (f .1) k (omega arith) y i s) (List·Memᴰ·cases-cons m)
+    ⊎-elim (λ (e : y ≡ x). absurd (omega (arith, f .0 (getD xs k 0) (in-getD xs k 0 (omega arith)))))
+    (λ i. falls-after xs (f .1) k (omega arith) y i s) (List·Memᴰ·cases-cons m)
 
 -- one number more at the end, where it is written
 pub written-next : (xs : List ℕ) (n v : ℕ) → n < length xs → take (n + 1) (set xs n v) ≡ take n xs ++ v ∷ []

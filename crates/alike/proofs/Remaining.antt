@@ -23,7 +23,8 @@ pub record Filtering (P : ℕ → Type 0) (alive kept rest : ℕ) : Type 0 where
   pub others : (c : ℕ) → Member c alive → P c → Member c kept ⊎ Member c rest
 
 -- one more in a set
-pub member-insert : (set p set′ : ℕ) → p < 64 → ((i : ℕ) → has set′ i ≡ (has set i || (eqb i p && ltb p 64))) → (i : ℕ) → Member i set′ ↔ (Member i set ⊎ (i ≡ p))
+pub member-insert : (set p set′ : ℕ) → p < 64 → ((i : ℕ) → has set′ i ≡ (has set i || (eqb i p && ltb p 64))) → (i : ℕ)
+    → Member i set′ ↔ (Member i set ⊎ (i ≡ p))
 member-insert set p set′ l e i = (λ m. to (has set i) refl (sym (e i) ∙ m), ⊎-elim old own)
   where
     last : (eqb i p && ltb p 64) ≡ true → i ≡ p
@@ -95,7 +96,8 @@ module _ {P : ℕ → Type 0} {alive : ℕ} where
   pub filtering-ends : {kept rest : ℕ} → Filtering P alive kept rest → members rest ≡ [] → Remain P alive kept
   filtering-ends {kept} {rest} f none c = (
     f .kept-in c,
-    λ (m, o). ⊎-elim (λ k. k) (λ k. absurd (List·Memᴰ·not-nil (subst (λ (xs : List ℕ). c ∈ xs) none (member-members rest (f .small) c .0 k)))) (f .others c m o),
+    λ (m, o). ⊎-elim (λ k. k) (λ k. absurd (List·Memᴰ·not-nil (subst (λ (xs : List ℕ). c ∈ xs) none (member-members rest (f .small) c .0 k))))
+        (f .others c m o),
   )
 
 -- what remains after n steps, each with a property of its own

@@ -11,6 +11,7 @@ use lib.ListN.{length, getD, set, length-set}
 use lib.Pow.{pow-pos}
 use lib.Seq.{getD-set-same, getD-set-other}
 use Rattle.equilibrium.specs.Meaning.{_∈_}
+use Rattle.format.specs.Tables.{mostAtoms}
 use Rattle.atomset.specs.AtomSet.{has, Member, members, setOf}
 use Rattle.atomset.proofs.Digits.{has-not, has-zero, same-members}
 use Rattle.atomset.proofs.Membership.{member-lt}
@@ -18,7 +19,7 @@ use Rattle.atomset.proofs.Members.{member-members}
 use Rattle.atomset.proofs.SetOf.{member-setOf, setOf-lt}
 use Rattle.alike.specs.Truths.{placeOf}
 use Rattle.alike.specs.Survivors.{mostPlaces}
-use Rattle.alike.specs.Places.{mostAtomsNoted, Seated, SeatedAll, PlacesKept, SeatedToo, OuterPlaces}
+use Rattle.alike.specs.Places.{Seated, SeatedAll, PlacesKept, SeatedToo, OuterPlaces}
 use Rattle.alike.proofs.Remaining.{member-insert, member-walk}
 use Rattle.alike.proofs.Words.{same-truth}
 
@@ -32,7 +33,7 @@ at-or {X} q p f g = by (ℕ-discrete q p)
 
 -- the atoms of the set that are not in the rest have places of their own below `place`
 pub record SeatingSoFar (atoms : ℕ) (places : List ℕ) (place rest : ℕ) : Type 0 where
-  pub long : length places ≡ mostAtomsNoted
+  pub long : length places ≡ mostAtoms
   pub small : rest < 2 ^ 64
   pub counted : place + length (members rest) ≡ length (members atoms)
   pub rest-in : (p : ℕ) → Member p rest → Member p atoms
@@ -41,7 +42,7 @@ pub record SeatingSoFar (atoms : ℕ) (places : List ℕ) (place rest : ℕ) : T
       (p q : ℕ) → Member p atoms → (Member p rest → ⊥) → Member q atoms → (Member q rest → ⊥) → placeOf places p ≡ placeOf places q → p ≡ q
 
 module _ (atoms : ℕ) where
-  pub seating-starts : {places : List ℕ} → length places ≡ mostAtomsNoted → atoms < 2 ^ 64 → SeatingSoFar atoms places 0 atoms
+  pub seating-starts : {places : List ℕ} → length places ≡ mostAtoms → atoms < 2 ^ 64 → SeatingSoFar atoms places 0 atoms
   seating-starts long small = record {
     long = long;
     small = small;
@@ -83,7 +84,7 @@ module _ (atoms : ℕ) where
       before q d n m = ⊎-elim d n (its q .0 m)
 
   -- no atom is left
-  pub seating-ends : {before places : List ℕ} {place rest : ℕ} → SeatingSoFar atoms places place rest → length before ≡ mostAtomsNoted → members rest ≡ []
+  pub seating-ends : {before places : List ℕ} {place rest : ℕ} → SeatingSoFar atoms places place rest → length before ≡ mostAtoms → members rest ≡ []
       → SeatedAll atoms before places
   seating-ends {rest = rest} s long none = record {
     long = s .long ∙ sym long;

@@ -1,15 +1,14 @@
 -- The loops over the parts h of one t, and over the parts t of the places in use: which candidates remain after each step.
-use Prim.Native.Nat.{ℕ, zero, suc, _+_, _-_, _*_, _%_, _^_, _≤_, _<_}
+use Prim.Native.Nat.{ℕ, suc, _+_, _-_, _*_, _%_, _^_, _≤_, _<_}
 use native.Mathlib.Omega.{arith}
 use mathlib.Core.List.{List, [], _∷_, List·Memᴰ·head, List·Memᴰ·tail}
 use mathlib.Core.Logic.{_↔_}
-use mathlib.Core.Path.{_≡_, refl, sym, ap, subst, _∙_}
+use mathlib.Core.Path.{_≡_, refl, ap, subst, _∙_}
 use lib.ListN.{length, getD}
 use Rattle.equilibrium.specs.Meaning.{_∈_}
 use Rattle.elk.specs.Instance.{Rising}
 use Rattle.elk.proofs.Rising.{rising-rest, rising-below}
 use Rattle.format.specs.File.{Body}
-use Rattle.format.specs.Tables.{mostFormulas}
 use Rattle.atomset.specs.AtomSet.{Member, members, setOf}
 use Rattle.atomset.proofs.Digits.{shl-one}
 use Rattle.atomset.proofs.Membership.{member-lt}
@@ -67,7 +66,8 @@ module _ (formulas list places : List ℕ) (t a : ℕ) (side : List ℕ) (alive 
   -- one part more
   pub below-next : {heres theres : List ℕ} {kept n : ℕ} → BelowSoFar heres theres kept n → (h : ℕ) → h ≡ setOf (part n (members t))
       → {heres′ theres′ : List ℕ} → JudgedAll formulas list places h t heres theres heres′ theres′ → ((i : ℕ) → getD heres′ i 0 < 2 ^ 64)
-      → (kept′ : ℕ) → kept′ < 2 ^ 64 → ((c : ℕ) → Member c kept′ ↔ (Member c kept × SameWord heres′ a (getD side c 0))) → BelowSoFar heres′ theres′ kept′ (n + 1)
+      → (kept′ : ℕ) → kept′ < 2 ^ 64 → ((c : ℕ) → Member c kept′ ↔ (Member c kept × SameWord heres′ a (getD side c 0)))
+      → BelowSoFar heres′ theres′ kept′ (n + 1)
   below-next {heres} {theres} {kept} {n} s h e {heres′} {theres′} judged bound kept′ small′ still = record {
     small = small′;
     here-long = judged .here-long ∙ s .here-long;

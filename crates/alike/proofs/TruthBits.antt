@@ -26,7 +26,7 @@ use Rattle.tables.specs.declared.records.NodeRecord.{NodeRecord}
 use Rattle.pairs.specs.Pairs.{holdsIn}
 use Rattle.pairs.specs.Truths.{byWord}
 use Rattle.pairs.proofs.Truths.{and-self, each-node}
-use Rattle.alike.specs.Under.{PartOf, first-part, second-part, PartIn, PartsAfter}
+use Rattle.alike.specs.Under.{PartOf, first-part, second-part, PartIn}
 use Rattle.alike.specs.Truths.{hereAt, thereAt, placeOf, bitOf, judgedHere, judgedThere, JudgedBits, Pair, Right, Ready, JudgedAll}
 
 -- ---- constant words
@@ -214,7 +214,8 @@ module _ {b : Body} {table list : List ℕ} (ready : Ready b table list) (places
   right-next x m = by (ℕ-discrete x i)
     where
       later : (x ≡ i → ⊥) → x ∈ drop (suc k) list
-      later n = ⊎-elim (λ (e : x ≡ getD list k 0). absurd (n (e ∙ sym is))) (λ y. y) (List·Memᴰ·cases-cons (subst (λ (xs : List ℕ). x ∈ xs) (drop-cons list k 0 l) m))
+      later n = ⊎-elim (λ (e : x ≡ getD list k 0). absurd (n (e ∙ sym is))) (λ y. y)
+          (List·Memᴰ·cases-cons (subst (λ (xs : List ℕ). x ∈ xs) (drop-cons list k 0 l) m))
 
       by : Dec (x ≡ i) → Right b places h t (set heres i v) (set theres i w) x
       by (yes e) = subst (Right b places h t (set heres i v) (set theres i w)) (sym e) own
@@ -250,7 +251,8 @@ module _ (formulas list places : List ℕ) (h t : ℕ) (heres₀ theres₀ : Lis
     within = omega (arith, s .within);
     here-long = ap length put-here ∙ length-set heres i v ∙ s .here-long;
     there-long = ap length put-there ∙ length-set theres i w ∙ s .there-long;
-    right = λ b r m n x y. subst (λ (hs : List ℕ). Right b places h t hs theres′ x) (sym put-here) (subst (λ (ts : List ℕ). Right b places h t (set heres i v) ts x) (sym put-there)
+    right = λ b r m n x y. subst (λ (hs : List ℕ). Right b places h t hs theres′ x) (sym put-here)
+        (subst (λ (ts : List ℕ). Right b places h t (set heres i v) ts x) (sym put-there)
         (right-next r places heres theres h t (s .here-long ∙ m) (s .there-long ∙ n) j (omega (arith, s .within))
         (λ x q. s .right b r m n x (subst (λ (z : ℕ). x ∈ drop z list) next q)) i is key its v w judged x y));
   }

@@ -63,7 +63,8 @@ module _ (places : List ℕ) (h t j : ℕ) where
   }
 
 -- one word for both exactly if they hold alike
-pub same-word-iff : (b : Body) (places : List ℕ) (h t : ℕ) (heres theres : List ℕ) (a x : ℕ) → Right b places h t heres theres a → Right b places h t heres theres x
+pub same-word-iff : (b : Body) (places : List ℕ) (h t : ℕ) (heres theres : List ℕ) (a x : ℕ) → Right b places h t heres theres a
+    → Right b places h t heres theres x
     → ((i : ℕ) → getD heres i 0 < 2 ^ 64) → SameWord heres a x ↔ AlikeAt b places h t a x
 same-word-iff b places h t heres theres a x own other small = (
   λ same j l h′ t′ pair. sym (other j l h′ t′ pair .0) ∙ ap (λ (w : ℕ). has w j) same ∙ own j l h′ t′ pair .0,

@@ -18,10 +18,6 @@ pub record Seated (places : List ℕ) (n set : ℕ) : Type 0 where
 abbrev pub Outer : ℕ → ℕ → Type 0
 Outer n set = (s : ℕ) → Member s set ↔ ((3 ≤ s) × (s < n))
 
--- a table of places has one for each atom that a file can have
-abbrev pub mostAtomsNoted : ℕ
-mostAtomsNoted = 64
-
 -- the atoms of the set have places of their own, as many as they are
 pub record SeatedAll (set : ℕ) (before after : List ℕ) : Type 0 where
   pub long : length after ≡ length before

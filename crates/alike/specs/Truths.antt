@@ -1,7 +1,7 @@
 -- The truth of formulas in 64 pairs at once. Pair j of the 64 gives the places 0, 1 and 2 what two digits of j say of each, and all
 -- pairs have one h and t for the places from 3 on.
 use Prim.Native.Nat.{ℕ, _+_, _*_, _^_, _<_}
-use mathlib.Core.Bool.{Bool, false, cond, not, _&&_, _||_}
+use mathlib.Core.Bool.{Bool, cond, not, _&&_, _||_}
 use mathlib.Core.List.{List}
 use mathlib.Core.Path.{_≡_}
 use lib.Dec.{ltb}

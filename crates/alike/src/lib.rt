@@ -31,6 +31,7 @@ use atomset::insert;
 use atomset::is_empty;
 use atomset::single;
 use atomset::without_first;
+use counts::limits::MOST_ATOMS;
 use counts::limits::MOST_FORMULAS;
 use known::index::note;
 use pairs::past_largest;
@@ -208,7 +209,7 @@ fn judge_group(
     requires { ⌜ Member c pending × Few (now notes) atoms (getD (now side) c 0) ⌝ }
     ensures { λ r. ⌜ GroupJudged (now (formulas .entry)) (now (notes .entry)) own atoms (now (side .entry)) c pending (r .candidates) (r .equal) ⌝ }
 {
-    let mut places = [NO_PLACE; 64];
+    let mut places = [NO_PLACE; MOST_ATOMS];
     let set = atoms_with(notes, atoms, formula_at(side, c));
     let width = count(set);
     seat(set, &mut places);
@@ -217,7 +218,9 @@ fn judge_group(
     Group { candidates, equal }
 }
 
-// Whether one of the candidates, all of which have few atoms with the formula's own, is equal to it.
+// Whether one of the candidates, all of which have few atoms with the formula's own, is equal to it. The first group is judged before the
+// loop: if `judge_group` were called at one place alone, the compiler would put it with its tables of 19 KiB into the function that judges
+// a line, and each line of a file would take longer.
 fn some_equal(
     formulas: &[u16],
     notes: &[u64],
@@ -229,8 +232,15 @@ fn some_equal(
     requires { ⌜ ((c : ℕ) → Member c narrow → Few (now notes) atoms (getD (now side) c 0)) ⌝ }
     ensures { λ r. ⌜ SomeEqual (now (formulas .entry)) (now (notes .entry)) own atoms (now (side .entry)) narrow r ⌝ }
 {
-    let mut pending = narrow;
-    let mut rest = narrow;
+    if is_empty(narrow) {
+        return false;
+    }
+    let begun = judge_group(formulas, notes, own, atoms, side, first(narrow), narrow);
+    if begun.equal {
+        return true;
+    }
+    let mut pending = difference(narrow, begun.candidates);
+    let mut rest = without_first(narrow);
     while !is_empty(rest) {
         let c = first(rest);
         rest = without_first(rest);

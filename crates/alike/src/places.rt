@@ -4,10 +4,11 @@ ghost use Prim.Native.Nat.{ℕ, _-_, _^_, _≤_};
 ghost use mathlib.Core.Bool.{true};
 ghost use mathlib.Core.Path.{_≡_};
 ghost use lib.ListN.{length};
+ghost use Rattle.format.specs.Tables.{mostAtoms};
 ghost use Rattle.atomset.specs.AtomSet.{Member};
 ghost use Rattle.alike.specs.Truths.{placeOf};
 ghost use Rattle.alike.specs.Survivors.{mostPlaces, Remain};
-ghost use Rattle.alike.specs.Places.{mostAtomsNoted, Seated, SeatedAll, PlacesKept, SeatedToo, OuterPlaces};
+ghost use Rattle.alike.specs.Places.{Seated, SeatedAll, PlacesKept, SeatedToo, OuterPlaces};
 use atomset::contains;
 use atomset::count;
 use atomset::difference;
@@ -29,7 +30,7 @@ struct Seats {
 
 // Gives the atoms of a set the places 0, 1, 2 and so on.
 pub(crate) fn seat(set: u64, places: &mut [u64])
-    requires { ⌜ length (now places) ≡ mostAtomsNoted ⌝ }
+    requires { ⌜ length (now places) ≡ mostAtoms ⌝ }
     ensures { λ _. ⌜ SeatedAll set (now (places .entry)) (now (places .exit)) ⌝ }
 {
     let mut place = 0;

@@ -67,10 +67,6 @@ exchanged-iff {F} {G} {s} {u} = (to, from)
           below = record { kind = t .kinds .1; left = row; right = ≈-refl };
         }
 
--- a formula that the premise's left side has and the row's lacks is the only G
-pub exchanged-only : {F G K : Formula} {s u : Sequent} → Exchanged F G (s ∷ []) u → K ∈ s .left → (K ∈ u .left → ⊥) → K ≡ G
-exchanged-only i m n = ⊎-elim (λ e. e) (λ k. absurd (n (i .below .left .1 _ (List·Memᴰ·tail k)))) (List·Memᴰ·cases-cons (i .above .0 .left .0 _ m))
-
 module _ (F : Formula) (s u : Sequent) where
   -- G makes the row right
   abbrev pub Fitting : Formula → Type 0

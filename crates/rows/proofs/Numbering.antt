@@ -10,7 +10,7 @@ use lib.ListN.{take}
 use Rattle.equilibrium.specs.Formula.{Formula}
 use Rattle.equilibrium.specs.Meaning.{_∈_}
 use Rattle.elk.specs.Sequent.{Sequent}
-use Rattle.elk.specs.Rules.{Entry, schema, default, cut, unstable, initial, exchange, entry}
+use Rattle.elk.specs.Rules.{Entry, schema, default, cut, unstable, initial, exchange}
 use Rattle.elk.specs.Instance.{TooManyAtomsOf}
 use Rattle.format.specs.File.{Row, Body}
 use Rattle.format.specs.Tests.{Test, _when_, first, wrongPremises, tooManyAtoms, wrongStep, ruleTests, bodyTests}

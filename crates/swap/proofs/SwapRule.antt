@@ -3,26 +3,23 @@
 use Prim.Native.Nat.{ℕ, _≤_, _<_}
 use native.Mathlib.Decide.{ℕ-discrete}
 use native.Mathlib.Omega.{arith}
-use mathlib.Core.Bool.{Bool, true, false}
 use mathlib.Core.List.{List, [], _∷_, List·Memᴰ·head, List·Memᴰ·tail, List·Memᴰ·not-nil, List·Memᴰ·eq-of-singleton}
 use mathlib.Core.Logic.{_↔_}
 use mathlib.Core.Path.{_≡_, refl, sym, ap, subst, _∙_}
-use lib.ListN.{length, getD}
+use lib.ListN.{length}
 use Rattle.equilibrium.specs.Formula.{Formula}
 use Rattle.equilibrium.specs.Meaning.{_∈_, _⊆_, Equal}
 use Rattle.elk.specs.Sequent.{Sequent, _⇒_}
 use Rattle.elk.specs.Instance.{Narrow, Exchanged, SwapInstance, TooWide}
-use Rattle.elk.specs.CommonSets.{Side, Shared}
-use Rattle.elk.proofs.Exchanging.{ExchangedTest, exchanged-iff, exchanged-only, swap-iff, too-wide-iff}
+use Rattle.elk.specs.CommonSets.{Shared}
+use Rattle.elk.proofs.Exchanging.{ExchangedTest, exchanged-iff, swap-iff, too-wide-iff}
 use Rattle.elk.proofs.Rising.{rising-unique}
 use Rattle.format.specs.File.{Body, decodedAt, decoded}
 use Rattle.format.specs.Tables.{mostOnSide}
 use Rattle.format.proofs.Formulas.{known-earlier, equal-numbers}
-use Rattle.format.proofs.GoodBodies.{Held, good-held, in-place}
+use Rattle.format.proofs.GoodBodies.{Held, good-held}
 use Rattle.format.proofs.RisingNumbers.{rising-of}
 use Rattle.format.proofs.Decoded.{in-decoded, decoded-in, number-on}
-use Rattle.tables.specs.Holding.{Sided}
-use Rattle.sides.specs.Covering.{FirstOutside}
 use Rattle.sides.specs.Numbers.{numbersOf, numberSide}
 use Rattle.sides.proofs.NumberSides.{noNumbers, oneNumber, one-number}
 use Rattle.sides.proofs.SharedSides.{shared-two}
@@ -87,7 +84,8 @@ module _ (p : ℕ) (left left₁ : List ℕ) where
     pub one-tested : {m q : ℕ} → m ≡ q → q < 65536
         → Shared (numberSide left (oneNumber n) ∷ numberSide left₁ (oneNumber m) ∷ []) ↔ LeftsMeet p q left left₁
     one-tested {m} {q} f k = (
-      λ s. meet-iff q .0 (subst (Lefts left (p ∷ []) left₁) (one-number f k) (subst (λ (a : List ℕ). Lefts left a left₁ (numbersOf (oneNumber m))) (one-number e h) s)),
+      λ s. meet-iff q .0 (subst (Lefts left (p ∷ []) left₁) (one-number f k)
+          (subst (λ (a : List ℕ). Lefts left a left₁ (numbersOf (oneNumber m))) (one-number e h) s)),
       λ t. subst (λ (a : List ℕ). Lefts left a left₁ (numbersOf (oneNumber m))) (sym (one-number e h))
           (subst (Lefts left (p ∷ []) left₁) (sym (one-number f k)) (meet-iff q .1 t)),
     )

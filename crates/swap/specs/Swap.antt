@@ -37,7 +37,8 @@ pub record SwapNumbered (formulas notes : List ℕ) (p : ℕ) (left right left�
   pub passes :
       (b : Body) → OfBody b formulas notes p left right left₁ right₁
       → (number ≡ 0)
-      ↔ SwapInstance (decodedAt (b .nodes) p) ((decoded (b .nodes) left₁ ⇒ decoded (b .nodes) right₁) ∷ []) (decoded (b .nodes) left ⇒ decoded (b .nodes) right)
+      ↔ SwapInstance (decodedAt (b .nodes) p) ((decoded (b .nodes) left₁ ⇒ decoded (b .nodes) right₁) ∷ [])
+      (decoded (b .nodes) left ⇒ decoded (b .nodes) right)
   pub wide :
       (b : Body) → OfBody b formulas notes p left right left₁ right₁
       → (number ≡ 18)

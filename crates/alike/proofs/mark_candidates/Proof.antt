@@ -13,7 +13,6 @@ use Rattle.format.specs.Tables.{mostFormulas}
 use Rattle.atomset.specs.AtomSet.{Member, members}
 use Rattle.atomset.proofs.Members.{member-members, walk-ends, walk-goes-on}
 use Rattle.alike.specs.Under.{Marked, MarkedBefore}
-use Rattle.alike.specs.Alike.{CandidatesMarked}
 use Rattle.alike.proofs.Remaining.{member-walk}
 use Rattle.alike.proofs.mark_candidates.Statement.{statement}
 use Rattle.alike.proofs.mark_candidates.Tie as tie
@@ -25,7 +24,8 @@ record MarkedSoFar (side : List ℕ) (candidates : ℕ) (marks₀ marks : List �
   passed :
       (c : ℕ) → Member c candidates → getD side c 0 < mostFormulas → mostFormulas ≤ length marks₀ → Member c rest ⊎ Marked marks (getD side c 0)
 
-mark-next : {side : List ℕ} {candidates : ℕ} {marks₀ marks : List ℕ} {rest : ℕ} → MarkedSoFar side candidates marks₀ marks rest → {p rest′ : ℕ} → rest′ < 2 ^ 64
+mark-next : {side : List ℕ} {candidates : ℕ} {marks₀ marks : List ℕ} {rest : ℕ} → MarkedSoFar side candidates marks₀ marks rest → {p rest′ : ℕ}
+    → rest′ < 2 ^ 64
     → members rest ≡ p ∷ members rest′ → {x : ℕ} → x ≡ getD side p 0 → {marks′ : List ℕ} → MarkedBefore x mostFormulas marks marks′
     → MarkedSoFar side candidates marks₀ marks′ rest′
 mark-next {side} {marks = marks} {rest = rest} s {p} {rest′} small′ walk {x} e {marks′} m = record {

@@ -21,7 +21,8 @@ abbrev μ-loop : tie.MeasureT-loop
 μ-loop notes atoms side alive kept₀ rest₀ kept rest = length (members rest)
 
 -- the next candidate, and the rest
-walk : (c : tie.After-without-first Inv-loop μ-loop) → members (c .before .before .before .before .loop .rest) ≡ c .before .first .result ∷ members (c .without-first .result)
+walk : (c : tie.After-without-first Inv-loop μ-loop)
+    → members (c .before .before .before .before .loop .rest) ≡ c .before .first .result ∷ members (c .without-first .result)
 walk c =
     let picked = c .before in
     walk-goes-on (picked .before .before .before .loop .rest) _ _ (sym (picked .before .before .is-empty .ensures) ∙ not-true _ (picked .before .if1 .taken))

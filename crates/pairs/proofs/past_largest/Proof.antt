@@ -48,7 +48,14 @@ loop-again c =
           ⊎-elim (λ k. omega (arith, turn .loop .inv .0 j k, c .larger .ensures))
           (λ (e : j ≡ turn .loop .i). omega (arith, ap (λ (k : ℕ). getD side k 0) e, c .before .wide .ensures, c .larger .ensures))
           (at-end (turn .loop .i) j (omega arith)),
-      λ m f. omega (arith, turn .loop .inv .1 m f, f (getD side (turn .loop .i) 0) (in-getD side (turn .loop .i) 0 (search needs)), c .before .wide .ensures, c .larger .ensures),
+      λ m f. omega (
+        arith,
+        turn .loop .inv .1 m f,
+        f (getD side (turn .loop .i) 0)
+            (in-getD side (turn .loop .i) 0 (search needs)),
+        c .before .wide .ensures,
+        c .larger .ensures,
+      ),
     )
 
 returns : tie.Need-returns Inv-loop μ-loop

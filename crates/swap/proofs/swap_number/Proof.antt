@@ -3,7 +3,7 @@ use Prim.Native.Nat.{ℕ, _+_, _-_, _≤_, _<_}
 use native.Mathlib.Omega.{arith}
 use mathlib.Core.Bool.{false≢true}
 use mathlib.Core.List.{List, [], _∷_, List·Memᴰ·head, List·Memᴰ·eq-of-singleton}
-use mathlib.Core.Path.{_≡_, refl, sym, ap, subst, _∙_}
+use mathlib.Core.Path.{_≡_, sym, ap, subst, _∙_}
 use borrow.Author.Tests.{not-true, not-false}
 use lib.ListN.{length, getD, take, drop}
 use lib.Seq.{drop-cons}
@@ -12,7 +12,6 @@ use Rattle.format.proofs.Equal.{same-iff}
 use Rattle.format.proofs.GoodBodies.{in-getD, in-place}
 use Rattle.sides.proofs.Deciding.{denied-if}
 use Rattle.alike.specs.Alike.{CandidatesNumbered}
-use Rattle.swap.specs.Swap.{SidesMeet}
 use Rattle.swap.proofs.SwapRule.{LeftsMeet, one-tested, none-tested, none-needed, none-leaves, only-one, eleven-given, candidates-given}
 use borrow.Author.Needs.{needs}
 use Rattle.swap.proofs.swap_number.Statement.{statement}

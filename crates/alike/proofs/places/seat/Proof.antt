@@ -20,7 +20,8 @@ abbrev μ-loop : tie.MeasureT-loop
 
 -- the next atom, and the rest
 walk : (c : tie.After-without-first Inv-loop μ-loop)
-    → members (c .before .before .before .before .before .before .before .before .loop .rest) ≡ c .before .before .before .before .first .result ∷ members (c .without-first .result)
+    → let picked = c .before .before .before .before in
+    members (picked .before .before .before .before .loop .rest) ≡ picked .first .result ∷ members (c .without-first .result)
 walk c =
     let picked = c .before .before .before .before in
     let test = picked .before .before in
@@ -63,7 +64,8 @@ same-length c = let turn = c .before .before in turn .loop .inv .long ∙ sym (t
 returns : tie.Need-returns Inv-loop μ-loop
 returns c =
     let turn = c .before .before in
-    seating-ends (turn .before .before .args .set) (turn .loop .inv) (turn .before .before .pre) (walk-ends _ (sym (c .before .is-empty .ensures) ∙ not-false _ (c .if1 .left)))
+    seating-ends (turn .before .before .args .set) (turn .loop .inv) (turn .before .before .pre)
+    (walk-ends _ (sym (c .before .is-empty .ensures) ∙ not-false _ (c .if1 .left)))
 
 pub seat-spec : {M : Type 1} → statement M
 seat-spec =

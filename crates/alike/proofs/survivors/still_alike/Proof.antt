@@ -1,7 +1,7 @@
 -- `alike::survivors::still_alike` meets its contract: candidates filtered one by one. Assumes nothing.
 use Prim.Native.Nat.{ℕ, _^_, _<_}
 use native.Mathlib.Omega.{arith}
-use mathlib.Core.List.{List, _∷_}
+use mathlib.Core.List.{_∷_}
 use mathlib.Core.Path.{_≡_, sym, ap, _∙_}
 use borrow.Author.Needs.{needs}
 use borrow.Author.Tests.{not-true, not-false}
@@ -20,7 +20,8 @@ abbrev μ-loop : tie.MeasureT-loop
 μ-loop heres own side alive word kept₀ rest₀ kept rest = length (members rest)
 
 -- the next candidate, and the rest
-walk : (c : tie.After-without-first Inv-loop μ-loop) → members (c .before .before .before .before .loop .rest) ≡ c .before .first .result ∷ members (c .without-first .result)
+walk : (c : tie.After-without-first Inv-loop μ-loop)
+    → members (c .before .before .before .before .loop .rest) ≡ c .before .first .result ∷ members (c .without-first .result)
 walk c =
     let picked = c .before in
     walk-goes-on (picked .before .before .before .loop .rest) _ _ (sym (picked .before .before .is-empty .ensures) ∙ not-true _ (picked .before .if1 .taken))

@@ -1,9 +1,5 @@
 -- `alike::truths::judge_listed` meets its contract. The invariant of its loop: the formulas from k on are judged. Assumes nothing.
-use Prim.Native.Nat.{ℕ}
-use native.Mathlib.Omega.{arith}
-use mathlib.Core.List.{List}
-use mathlib.Core.Path.{_≡_, refl, sym, ap, ap₂, subst, _∙_}
-use lib.ListN.{length, set}
+use mathlib.Core.Path.{refl}
 use borrow.Author.Needs.{needs}
 use Rattle.alike.proofs.TruthBits.{JudgedFrom, judged-none, judged-next, judged-whole}
 use Rattle.alike.proofs.truths.judge_listed.Statement.{statement}
@@ -16,7 +12,8 @@ abbrev μ-loop : tie.MeasureT-loop
 μ-loop formulas list places h t heres₀ theres₀ k₀ heres theres k = k
 
 loop-holds : tie.Need-loop-holds Inv-loop μ-loop
-loop-holds c = let args = c .before .before .before .before .before .args in judged-none (args .formulas .now) (args .list .now) (args .places .now) (args .h) (args .t) (args .heres .now) (args .theres .now)
+loop-holds c = let args = c .before .before .before .before .before .args in judged-none (args .formulas .now) (args .list .now) (args .places .now)
+    (args .h) (args .t) (args .heres .now) (args .theres .now)
 
 sub-k : tie.Need-sub-k Inv-loop μ-loop
 sub-k c = search needs
@@ -57,7 +54,8 @@ loop-again c =
     let args = turn .before .before .before .before .before .before .args in
     let truth = judged .judged in
     judged-next (args .formulas .now) (args .list .now) (args .places .now) (args .h) (args .t) (args .heres .now) (args .theres .now)
-    (turn .loop .heres) (turn .loop .theres) (turn .loop .inv) (test .loop-test .taken) refl _ (index .wide .ensures) _ (own .node .ensures) _ _ (truth .ensures)
+    (turn .loop .heres) (turn .loop .theres) (turn .loop .inv) (test .loop-test .taken) refl _ (index .wide .ensures) _ (own .node .ensures) _ _
+    (truth .ensures)
     (first .put-note .ensures) (second .put-note2 .ensures)
 
 same-length : tie.Need-same-length Inv-loop μ-loop

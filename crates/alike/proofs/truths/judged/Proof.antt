@@ -1,7 +1,7 @@
 -- `alike::truths::judged` meets its contract, by the word of the record. Assumes nothing.
 use Prim.Native.Nat.{ℕ}
 use mathlib.Core.List.{List}
-use mathlib.Core.Path.{_≡_, sym, ap, _∙_}
+use mathlib.Core.Path.{_≡_, ap, _∙_}
 use lib.ListN.{getD}
 use Rattle.alike.proofs.TruthBits.{of-atom, of-not, of-and, of-or, of-imp, of-none}
 use borrow.Author.Needs.{needs}

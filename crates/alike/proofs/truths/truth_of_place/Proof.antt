@@ -39,10 +39,12 @@ returns : tie.Need-returns
 returns c = λ j l. let args = c .before .args in subst (λ (p : ℕ). Words p (args .h) (args .t) _ _) (sym (c .if1 .taken)) (place-zero (args .h) (args .t)) j l
 
 returns-2 : tie.Need-returns-2
-returns-2 c = λ j l. let args = c .before .before .args in subst (λ (p : ℕ). Words p (args .h) (args .t) _ _) (sym (c .if2 .taken)) (place-one (args .h) (args .t)) j l
+returns-2 c = λ j l. let args = c .before .before .args in subst (λ (p : ℕ). Words p (args .h) (args .t) _ _) (sym (c .if2 .taken))
+    (place-one (args .h) (args .t)) j l
 
 returns-3 : tie.Need-returns-3
-returns-3 c = λ j l. let args = c .before .before .before .args in subst (λ (p : ℕ). Words p (args .h) (args .t) _ _) (sym (c .if3 .taken)) (place-two (args .h) (args .t)) j l
+returns-3 c = λ j l. let args = c .before .before .before .args in subst (λ (p : ℕ). Words p (args .h) (args .t) _ _) (sym (c .if3 .taken))
+    (place-two (args .h) (args .t)) j l
 
 spread-requires : tie.Need-spread-requires
 spread-requires c κs = search needs
@@ -54,7 +56,8 @@ returns-4 : tie.Need-returns-4
 returns-4 c = λ j l.
     let passed = c .before .before in
     let args = passed .before .before .before .args in
-    let later = three-on (args .place) (omega (arith, passed .if3 .left, passed .before .if2 .left, passed .before .before .if1 .left)) (args .h) (args .t) j in
+    let later = three-on (args .place) (omega (arith, passed .if3 .left, passed .before .if2 .left, passed .before .before .if1 .left)) (args .h)
+    (args .t) j in
     (c .before .spread .ensures j l ∙ sym (later .0), c .spread2 .ensures j l ∙ sym (later .1))
 
 pub truth-of-place-spec : {M : Type 1} → statement M

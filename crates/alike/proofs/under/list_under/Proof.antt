@@ -1,5 +1,5 @@
 -- `alike::under::list_under` meets its contract. The invariant of its loop: the marked formulas from i on are listed. Assumes nothing.
-use Prim.Native.Nat.{_≤_, _<_}
+use Prim.Native.Nat.{_<_}
 use native.Mathlib.Nat.{mod-eq-of-lt}
 use native.Mathlib.Omega.{arith}
 use mathlib.Core.Path.{_≡_, refl, _∙_}
@@ -28,7 +28,9 @@ sub-i : tie.Need-sub-i Inv-loop μ-loop
 sub-i c = search needs
 
 slice-read-if1 : tie.Need-slice-read-if1 Inv-loop μ-loop
-slice-read-if1 c = let turn = c .before .before in omega (arith, turn .loop .inv .2 .few, turn .loop .inv .0, turn .before .before .before .before .pre .0, c .before .loop-test .taken)
+slice-read-if1 c =
+    let turn = c .before .before in
+    omega (arith, turn .loop .inv .2 .few, turn .loop .inv .0, turn .before .before .before .before .pre .0, c .before .loop-test .taken)
 
 mark-parts-requires : tie.Need-mark-parts-requires Inv-loop μ-loop
 mark-parts-requires c κs = search needs

@@ -1,9 +1,8 @@
 -- `sides::covering::first_outside` meets its contract. The invariant of its loop: the numbers of a before i are in b, and what the cursor
 -- has passed is below a[i].
-use Prim.Native.Nat.{ℕ, _-_, _≤_, _<_}
+use Prim.Native.Nat.{_-_, _≤_, _<_}
 use native.Mathlib.Omega.{arith}
 use mathlib.Core.Bool.{true}
-use mathlib.Core.List.{List}
 use mathlib.Core.Path.{_≡_}
 use borrow.Author.Needs.{needs}
 use borrow.Author.Tests.{not-true, not-false}
