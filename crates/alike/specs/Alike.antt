@@ -101,7 +101,8 @@ abbrev pub OneWide : Body → ℕ → List ℕ → Type 0
 OneWide b own side = (x : ℕ) × (x ∈ side) × (Narrow (decodedAt (b .nodes) own) (decodedAt (b .nodes) x) → ⊥)
 
 -- The number of the candidates. Where the tables hold the formulas of a good body with their atoms, and the side has no more entries
--- than 01 allows, 0 exactly if one fits, and 18 exactly if none does and one has too many atoms. In any tables it is one of 0, 18 and 11.
+-- than 01 allows, 0 exactly if one fits, and 18 exactly if none does and one has too many atoms. In any tables it is one of 0, 18 and 11;
+-- which of them is free elsewhere.
 pub record CandidatesNumbered (formulas notes : List ℕ) (own : ℕ) (side : List ℕ) (number : ℕ) : Type 0 where
   pub fits : (b : Body) → Held b formulas own side → AtomNotes b notes → length side ≤ mostOnSide → (number ≡ 0) ↔ OneFits b own side
   pub wide :

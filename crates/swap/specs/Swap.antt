@@ -32,7 +32,7 @@ pub record OfBody (b : Body) (formulas notes : List ℕ) (p : ℕ) (left right l
 
 -- The number of a row L,A => R by `swap` from L,B => R. For every good body that the tables begin with, 0 exactly if the row is an
 -- instance, and 18 exactly if no B with few atoms fits and some B that leaves the sides right has more. In any tables it is one of
--- 0, 18 and 11, and 11 unless the sides meet; which of the three it is then is free where the tables hold no good body.
+-- 0, 18 and 11, and 11 unless the sides meet; which of the three it is then is free where there is no such body (`OfBody`).
 pub record SwapNumbered (formulas notes : List ℕ) (p : ℕ) (left right left₁ right₁ : List ℕ) (number : ℕ) : Type 0 where
   pub passes :
       (b : Body) → OfBody b formulas notes p left right left₁ right₁

@@ -282,6 +282,30 @@ refused 18 one_that_differs_beside_a_wide_one
     also p,NINE
     same p - NINE,p => p
     swap q 0 NINE,p,q => p
+accepted fits_in_the_last_of_four_pairings
+    also p&q,p&r,p&s,p&t,q&r,q&s,q&t,r&s,r&t,s&t,(s&t)&~s
+    same p&q - p&q,p&r,p&s,p&t,q&r,q&s,q&t,r&s,r&t,s&t,(s&t)&~s => p&q
+    swap # 0 p&q,p&r,p&s,p&t,q&r,q&s,q&t,r&s,r&t,s&t,(s&t)&~s,# => p&q
+refused 11 fits_if_two_atoms_were_one
+    also p&r,q&r,p&~q
+    same p&r - p&r,q&r,p&~q => p&r
+    swap # 0 p&r,q&r,p&~q,# => p&r
+refused 11 fits_if_two_atoms_of_an_implication_were_one
+    also p&r,q&r,p->q
+    same p&r - p&r,q&r,p->q => p&r
+    swap ~# 0 p&r,q&r,p->q,~# => p&r
+refused 11 none_of_all_pairs_fits
+    also p&q,p&r,p&s,p&t,q&r,q&s,q&t,r&s,r&t,s&t
+    same p&q - p&q,p&r,p&s,p&t,q&r,q&s,q&t,r&s,r&t,s&t => p&q
+    swap # 0 p&q,p&r,p&s,p&t,q&r,q&s,q&t,r&s,r&t,s&t,# => p&q
+refused 18 wide_one_beside_all_pairs
+    also p&q,p&r,p&s,p&t,q&r,q&s,NINE,q&t,r&s,r&t,s&t
+    same p&q - p&q,p&r,p&s,p&t,q&r,q&s,q&t,r&s,r&t,s&t,NINE => p&q
+    swap # 0 p&q,p&r,p&s,p&t,q&r,q&s,q&t,r&s,r&t,s&t,NINE,# => p&q
+accepted small_one_first_and_a_larger_one_fits
+    also p,p&(q&r),(q&r)&p
+    same p - p,p&(q&r),(q&r)&p => p
+    swap (p&q)&r 0 p,p&(q&r),(q&r)&p,(p&q)&r => p
 refused 18 wide_one_goes_while_an_equal_one_stays
     same q&p - NINE,q&p => q&p
     swap p&q 0 q&p,p&q => q&p
