@@ -138,7 +138,7 @@ static void print_slow(const char *table, const struct shape *slow, int count, i
     }
 }
 
-/* With the word `swaps`, the slowest rows of that rule alone: they take seconds. */
+/* With the word `swaps`, the slowest rows of that rule alone: they take seconds together. */
 int main(int words, char **word) {
     static struct file file;
     static struct text text;

@@ -330,8 +330,8 @@ static void swapped_rows(struct file *f, int rounds) {
     close_with(f, p);
 }
 
-/* What slow rows of `swap` are made of: 63 formulas to choose from, all on the left of a first row; one for which the last of them will
- * do, and one for which none will. */
+/* What slow rows of `swap` are made of: up to 63 formulas to choose from, all on the left of a first row; one for which the last of them
+ * will do, and one for which none will. */
 struct choice {
     struct side from;
     int first, fits, differs;
@@ -386,10 +386,22 @@ static void refused_swaps(struct file *f, int atoms, int rounds) {
     slow_swap(f, &c, c.differs);
 }
 
-/* Sets of six of twelve atoms, against checkers that judge candidates together where their atoms can share places. By turns they are a set
- * and the rest. These two share six places, in rising order; all later ones then have two atoms at one place, so that two at a time is the
- * most, and two can always share places. */
-enum { OWN = 6, POOL = 2 * OWN, WHOLE_POOL = (1 << POOL) - 1 };
+/* A formula that rests on so many others, each on the one before it. Their words are drawn, and do not come in turn: a processor guesses a
+ * branch by those before it, and then often guesses wrong what is to be done for the next formula. */
+static int irregular_chain(struct file *f, int bot, int length) {
+    int newest = bot;
+    unsigned drawn = 1;
+    for (int i = 0; i < length; i++) {
+        newest = formula(f, drawn % 3 != 0 ? "imp" : "and", newest, bot);
+        drawn = drawn * 75 % 65537;
+    }
+    return newest;
+}
+
+/* Sets of eight of sixteen atoms, against checkers that judge candidates together where their atoms can share places. By turns they are a
+ * set and the rest. These two share eight places, in rising order; all later ones then have two atoms at one place, so that two at a time
+ * is the most, and two can always share places. */
+enum { POOL = 2 * IN_SWAP, WHOLE_POOL = (1 << POOL) - 1 };
 
 /* The next number with as many bits. */
 static unsigned next_set(unsigned set) {
@@ -406,7 +418,7 @@ static bool clash(unsigned first, unsigned second) {
 }
 
 static void clashing_sets(unsigned *sets, int count) {
-    unsigned set = (1u << OWN) - 1;
+    unsigned set = (1u << IN_SWAP) - 1;
     for (int found = 0; found < count; set = next_set(set)) {
         bool clashes = true;
         for (int i = 0; i < found; i += 2)
@@ -432,35 +444,43 @@ static int joint(struct file *f, const int *atoms, unsigned set, int *known) {
     return known[set];
 }
 
-/* All formulas to choose from rest on the same hundreds of others, over two more atoms. The last never holds, as the one that fits; the
- * others hold in the one pair in which H has all of their atoms. */
-static struct choice clashing_choice(struct file *f) {
-    static const char *const words[] = {"and", "or", "imp"};
-    enum { COMMON = IN_SWAP - OWN, CHOICE = MOST_ON_SIDE - 1 };
-    unsigned sets[CHOICE];
-    int p[COMMON], pool[POOL], held[CHOICE], known[WHOLE_POOL + 1] = {0};
-    for (int i = 0; i < COMMON; i++)
-        p[i] = atom(f);
+/* All formulas to choose from rest on the same hundreds of others. The last never holds, as the one that fits, which is falsum; the others
+ * hold in the one pair in which H has all of their atoms. */
+static struct choice clashing_choice(struct file *f, int candidates) {
+    unsigned sets[MOST_ON_SIDE];
+    int pool[POOL], held[MOST_ON_SIDE], known[WHOLE_POOL + 1] = {0};
     for (int i = 0; i < POOL; i++)
         pool[i] = atom(f);
-    clashing_sets(sets, CHOICE);
-    for (int i = 0; i < CHOICE; i++)
+    clashing_sets(sets, candidates);
+    for (int i = 0; i < candidates; i++)
         held[i] = joint(f, pool, sets[i], known);
-    int bot = formula(f, "bot", NONE, NONE), every = joined(f, p, COMMON);
-    int length = MOST_FORMULAS - f->formulas - CHOICE - 3, newest = p[0];
-    for (int i = 0; i < length; i++)
-        newest = formula(f, words[i % 3], i % 2 ? p[i / 2 % COMMON] : newest, i % 2 ? newest : p[i / 2 % COMMON]);
-    int common = formula(f, "and", every, formula(f, "imp", bot, newest));
-    struct choice c = {.fits = formula(f, "and", newest, bot)};
-    for (int i = 0; i < CHOICE; i++)
-        c.from = with(c.from, formula(f, "and", i + 1 < CHOICE ? common : c.fits, held[i]));
+    int bot = formula(f, "bot", NONE, NONE);
+    int newest = irregular_chain(f, bot, MOST_FORMULAS - f->formulas - candidates - 2);
+    int always = formula(f, "imp", bot, newest), never = formula(f, "and", bot, newest);
+    struct choice c = {.fits = bot};
+    for (int i = 0; i < candidates; i++)
+        c.from = with(c.from, formula(f, "and", i + 1 < candidates ? always : never, held[i]));
     c.first = row(f, "same", c.from.formulas[0], NONE, NONE, c.from, one(c.from.formulas[0]));
     return c;
 }
 
-static void clashing_swaps(struct file *f, int rounds) {
-    struct choice c = clashing_choice(f);
+static void clashing_swaps(struct file *f, int candidates, int rounds) {
+    struct choice c = clashing_choice(f, candidates);
     accept(f, &c, rounds);
+}
+
+/* Falsum in the place of a formula that rests on all others, over eight atoms, and never holds: one to choose from, and the most rows. */
+static void lone_swaps(struct file *f, int rounds) {
+    int p[IN_SWAP];
+    for (int i = 0; i < IN_SWAP; i++)
+        p[i] = atom(f);
+    int bot = formula(f, "bot", NONE, NONE), every = joined(f, p, IN_SWAP);
+    int newest = irregular_chain(f, bot, MOST_FORMULAS - f->formulas - 2);
+    int never = formula(f, "and", bot, formula(f, "and", newest, every));
+    int first = row(f, "same", never, NONE, NONE, one(never), one(never));
+    for (int i = 0; i < rounds; i++)
+        row(f, "swap", bot, first, NONE, one(bot), one(never));
+    close_with(f, p[0]);
 }
 
 const struct shape shapes[SHAPES] = {
@@ -468,26 +488,29 @@ const struct shape shapes[SHAPES] = {
     {"sides of 64", .write = wide_sides, .told = "words, wide"},
     {"the same in runs", .write = wide_sides, .in_runs = true},
     {"deep chain", .write = deep_chain},
-    {"unst, 16 atoms", .write_over = unstable_rows, .atoms = 16},
-    {"unst, 63 atoms", .write_over = unstable_rows, .atoms = 63},
+    {"unst, 16 atoms", .write_over = unstable_rows, .size = 16},
+    {"unst, 63 atoms", .write_over = unstable_rows, .size = 63},
     {"refutations", .write = refutations, .told = "words, nested"},
     {"many formulas", .write = many_formulas},
     {"swaps", .write = swapped_rows},
 };
 
 const struct shape slow_models[SLOW_MODELS] = {
-    {"model of 8", .write_over = slow_model, .atoms = 8},
-    {"model of 10", .write_over = slow_model, .atoms = 10},
-    {"model of 12", .write_over = slow_model, .atoms = 12},
-    {"model of 14", .write_over = slow_model, .atoms = 14},
-    {"model of 16", .write_over = slow_model, .atoms = MOST_IN_MODEL},
+    {"model of 8", .write_over = slow_model, .size = 8},
+    {"model of 10", .write_over = slow_model, .size = 10},
+    {"model of 12", .write_over = slow_model, .size = 12},
+    {"model of 14", .write_over = slow_model, .size = 14},
+    {"model of 16", .write_over = slow_model, .size = MOST_IN_MODEL},
 };
 
+/* The fewer formulas to choose from, the more each can rest on. With 11 the left pool is still full; with fewer the text is full before. */
 const struct shape slow_swaps[SLOW_SWAPS] = {
-    {"accepted", .write_over = accepted_swaps, .atoms = IN_SWAP, .in_runs = true, .filled_in_runs = true},
-    {"refused", .write_over = refused_swaps, .atoms = IN_SWAP, .in_runs = true, .filled_in_runs = true, .number = ELK_WRONG_STEP},
-    {"own atoms", .write_over = accepted_swaps, .atoms = 64, .in_runs = true, .filled_in_runs = true},
-    {"clashing atoms", .write = clashing_swaps, .in_runs = true, .filled_in_runs = true},
+    {"accepted", .write_over = accepted_swaps, .size = IN_SWAP, .in_runs = true, .filled_in_runs = true},
+    {"refused", .write_over = refused_swaps, .size = IN_SWAP, .in_runs = true, .filled_in_runs = true, .number = ELK_WRONG_STEP},
+    {"own atoms", .write_over = accepted_swaps, .size = 64, .in_runs = true, .filled_in_runs = true},
+    {"clashing atoms", .write_over = clashing_swaps, .size = MOST_ON_SIDE - 1, .in_runs = true, .filled_in_runs = true},
+    {"clashing, 11", .write_over = clashing_swaps, .size = 11, .in_runs = true, .filled_in_runs = true},
+    {"one candidate", .write = lone_swaps},
 };
 
 const struct long_line long_lines[LONG_LINES] = {
@@ -517,7 +540,7 @@ static void write_file(const struct shape *shape, int rounds, bool in_runs, stru
     memset(f, 0, sizeof *f);
     f->in_runs = in_runs;
     if (shape->write_over != NULL)
-        shape->write_over(f, shape->atoms, rounds);
+        shape->write_over(f, shape->size, rounds);
     else
         shape->write(f, rounds);
     assemble(f, t);

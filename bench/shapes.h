@@ -37,11 +37,11 @@ struct shape {
     bool in_runs;        /* its lists are */
     bool filled_in_runs; /* with the rows that fit so, and not only those that fit in plain lists */
     unsigned number;     /* that it earns */
-    void (*write_over)(struct file *, int atoms, int rounds);
-    int atoms;
+    void (*write_over)(struct file *, int size, int rounds);
+    int size;            /* how many atoms, or formulas to choose from */
 };
 
-enum { SHAPES = 9, SLOW_MODELS = 5, SLOW_SWAPS = 4, LONG_LINES = 3 };
+enum { SHAPES = 9, SLOW_MODELS = 5, SLOW_SWAPS = 6, LONG_LINES = 3 };
 
 extern const struct shape shapes[SHAPES], slow_models[SLOW_MODELS], slow_swaps[SLOW_SWAPS];
 

@@ -7,7 +7,7 @@ use mathlib.Core.Logic.{_⊎_, inl, inr, ⊎-elim, _↔_}
 use mathlib.Core.Path.{_≡_, refl, sym, ap, subst, _∙_}
 use lib.Bits.{bitOr}
 use lib.Dec.{eqb}
-use lib.ListN.{length, getD, take}
+use lib.ListN.{length, getD, take, length-take}
 use Rattle.equilibrium.specs.Formula.{atomsOf}
 use Rattle.equilibrium.specs.Meaning.{_∈_, Equal}
 use Rattle.format.specs.File.{Body, decodedAt}
@@ -19,10 +19,10 @@ use Rattle.atomset.proofs.Membership.{member-union, member-difference}
 use Rattle.atomset.proofs.Members.{member-members, walk-ends}
 use Rattle.known.specs.Known.{AtomNotes}
 use Rattle.sides.specs.Deciding.{Decides}
-use Rattle.alike.specs.Under.{MarkedBefore, Listed}
-use Rattle.alike.specs.Survivors.{AlikeOver, Prepared, AlikeAll}
+use Rattle.alike.specs.Under.{MarkedBefore, Room, Listed}
+use Rattle.alike.specs.Survivors.{AlikeOver, Prepared, RoomFor, AlikeAll, AnyAlike}
 use Rattle.alike.specs.Places.{OuterPlaces}
-use Rattle.alike.specs.Alike.{atomsAt, CandidatesMarked, Bounded, Room, Held, OneEqual, BothSeated, SomeAlike, SomeEqual, Grouped, GroupJudged}
+use Rattle.alike.specs.Alike.{atomsAt, CandidatesMarked, Bounded, Held, OneEqual, BothSeated, SomeAlike, SomeEqual, Grouped, GroupJudged}
 use Rattle.alike.proofs.Remaining.{member-walk}
 use Rattle.alike.proofs.Covering.{alike-iff}
 
@@ -48,11 +48,27 @@ some-first set first e small is = by (members set) refl
         let here = is ∙ ap (λ (ys : List ℕ). getD ys 0 64) k in
         member-members set small first .1 (subst (λ (ys : List ℕ). first ∈ ys) (sym k) (List·Memᴰ·head here))
 
-module _ {formulas : List ℕ} {own : ℕ} {places side : List ℕ} {candidates : ℕ} {marks list heres theres : List ℕ}
-    (room : Room marks list heres theres) {end : ℕ} (bounded : Bounded own side end)
-    {marks₁ marks₂ list′ : List ℕ} (own-marked : MarkedBefore own mostFormulas marks marks₁) (all-marked : CandidatesMarked side candidates marks₁ marks₂)
-    {n : ℕ} (listed : Listed formulas end marks₂ list′ n) {width outer : ℕ} (places-outer : OuterPlaces width outer)
-    {kept : ℕ} (alike : AlikeAll formulas (take n list′) places outer own side candidates heres theres kept) where
+-- the candidates that are left say whether one is alike
+pub any-alike : {formulas list slots places : List ℕ} {outer own : ℕ} {side : List ℕ} {candidates : ℕ} {table : List ℕ} {kept : ℕ}
+    → AlikeAll formulas list slots places outer own side candidates table kept → RoomFor list table
+    → (r : Bool) → r ≡ eqb (length (members kept)) 0 → kept < 2 ^ 64 → AnyAlike formulas list slots places outer own side candidates (not r)
+any-alike {kept = kept} alike room r e small = record {
+  decides = λ b p.
+      let some = some-member kept r e small in
+      let remain = alike .remain b p room in
+      record {
+        sound = λ t. let k = some .0 t in let m = remain (k .0) .0 (k .1) in (k .0, m .0, m .1);
+        complete = λ (c, m, q). some .1 (c, remain c .1 (m, q));
+      };
+}
+
+-- and where atoms have places of their own, whether one is equal
+module _ {formulas : List ℕ} {own : ℕ} {places side : List ℕ} {candidates : ℕ} {marks list slots : List ℕ}
+    (room : Room marks list slots) {end : ℕ} (bounded : Bounded own side end)
+    {marks₁ marks₂ list′ slots′ : List ℕ} (own-marked : MarkedBefore own mostFormulas marks marks₁)
+    (all-marked : CandidatesMarked side candidates marks₁ marks₂)
+    {n : ℕ} (listed : Listed formulas end marks₂ list′ slots′ n) {width outer : ℕ} (places-outer : OuterPlaces width outer)
+    {r : Bool} (alike : AnyAlike formulas (take n list′) slots′ places outer own side candidates r) where
   module _ (b : Body) (held : Held b formulas own side) (on-side : (c : ℕ) → Member c candidates → c < length side) where
     few : length (b .nodes) ≤ mostFormulas
     few = good-held (held .formulas-held .good) .few-nodes
@@ -60,16 +76,19 @@ module _ {formulas : List ℕ} {own : ℕ} {places side : List ℕ} {candidates 
     past : (own < end) × ((x : ℕ) → x ∈ side → x < end) × (end ≤ length (b .nodes))
     past = bounded .past (length (b .nodes)) few (held .own-known) (held .side-known)
 
-    prepared : Prepared b formulas (take n list′) own side candidates heres theres
+    prepared : Prepared b formulas (take n list′) slots′ own side candidates
     prepared = record {
-      ready = record { held = held .formulas-held; known = λ x m. omega (arith, listed .below x m, past .2); ordered = listed .ordered };
+      ready = record {
+        held = held .formulas-held;
+        known = λ x m. omega (arith, listed .below x m, past .2);
+        ordered = listed .ordered;
+        placed = λ k l. listed .placed k (omega (arith, length-take n list′));
+      };
       own = listed .marked own (past .0) (all-marked .kept own (own-marked .marked (omega (arith, past .0, bounded .few)) (omega (arith, room .marks-long))));
       candidates = λ c m.
           let low = past .1 (getD side c 0) (in-getD side c 0 (on-side c m)) in
           listed .marked (getD side c 0) low
           (all-marked .marked c m (omega (arith, low, bounded .few)) (omega (arith, own-marked .long, room .marks-long)));
-      here-room = room .heres-long;
-      there-room = room .theres-long;
     }
 
     module _ (both : (c : ℕ) → Member c candidates → BothSeated places width (decodedAt (b .nodes) own) (decodedAt (b .nodes) (getD side c 0))) where
@@ -81,17 +100,16 @@ module _ {formulas : List ℕ} {own : ℕ} {places side : List ℕ} {candidates 
           (λ p i. member-members (s .set) (s .small) p .0 (⊎-elim (s .in-first p) (s .in-second p)
           (List·Memᴰ·append-cases (atomsOf (decodedAt (b .nodes) own)) i)))
 
-      decided : (r : Bool) → r ≡ eqb (length (members kept)) 0 → kept < 2 ^ 64 → Decides (OneEqual b own side candidates) (not r)
-      decided r e small =
-          let some = some-member kept r e small in
-          let remain = alike .remain b prepared in
+      decided : Decides (OneEqual b own side candidates) r
+      decided =
+          let one = alike .decides b prepared in
           record {
-            sound = λ t. let k = some .0 t in let m = remain (k .0) .0 (k .1) in (k .0, m .0, equal (k .0) (m .0) .0 (m .1));
-            complete = λ (c, m, q). some .1 (c, remain c .1 (m, equal c m .1 q));
+            sound = λ t. let k = one .sound t in (k .0, k .1, equal (k .0) (k .1) .0 (k .2));
+            complete = λ (c, m, q). one .complete (c, m, equal c m .1 q);
           }
 
-  pub some-alike : (r : Bool) → r ≡ eqb (length (members kept)) 0 → kept < 2 ^ 64 → SomeAlike formulas own places width side candidates (not r)
-  some-alike r e small = record { decides = λ b held on-side both. decided b held on-side both r e small }
+  pub some-alike : SomeAlike formulas own places width side candidates r
+  some-alike = record { decides = decided }
 
 -- ---- candidates judged in groups
 

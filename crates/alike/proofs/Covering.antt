@@ -1,13 +1,13 @@
 -- Where the atoms of two formulas have places of their own, they hold alike in all pairs of places exactly if they hold alike in all
 -- pairs of sets.
-use Prim.Native.Nat.{ℕ, _+_, _*_, _/_, _%_, _^_, _≤_, _<_}
+use Prim.Native.Nat.{ℕ, _^_, _≤_, _<_}
 use native.Mathlib.Decide.{ℕ-discrete, decLt, decLe}
 use native.Mathlib.Omega.{arith}
-use mathlib.Core.Bool.{Bool, true, false, cond, _&&_, false≢true}
+use mathlib.Core.Bool.{Bool, true, false, cond, false≢true}
 use mathlib.Core.List.{List, [], _∷_, map, List·Memᴰ·head, List·Memᴰ·tail, List·Memᴰ·not-nil, List·Memᴰ·cases-cons}
 use mathlib.Core.Logic.{⊎-elim, _↔_}
-use mathlib.Core.Path.{_≡_, refl, sym, ap, ap₂, subst, _∙_}
-use borrow.Author.Tests.{lt-ltb, le-ltb}
+use mathlib.Core.Path.{_≡_, refl, sym, ap, subst, _∙_}
+use borrow.Author.Tests.{lt-ltb, le-ltb, eqb-true}
 use lib.Dec.{eqb, ltb}
 use Rattle.equilibrium.specs.Formula.{Formula}
 use Rattle.equilibrium.specs.Meaning.{_∈_, _⊆_, Holds, Equal}
@@ -20,12 +20,13 @@ use Rattle.atomset.proofs.Members.{member-members}
 use Rattle.atomset.proofs.SetOf.{member-setOf}
 use Rattle.pairs.specs.Pairs.{holdsIn}
 use Rattle.pairs.specs.Parts.{part}
-use Rattle.pairs.proofs.Pairs.{Says, says-and, holds-in-iff}
+use Rattle.pairs.proofs.Pairs.{Says, holds-in-iff}
 use Rattle.pairs.proofs.Parts.{part-inside, every-part}
-use Rattle.alike.specs.Truths.{hereAt, thereAt, placeOf, Pair}
+use Rattle.alike.specs.Blocks.{pairsAtOnce}
+use Rattle.alike.specs.Truths.{innerPlaces, third, hereAt, thereAt, placeOf, Pair}
 use Rattle.alike.specs.Survivors.{AlikeOver}
 use Rattle.alike.specs.Places.{Seated, Outer}
-use Rattle.alike.proofs.Words.{same-truth, word-of, pair-of, heres, theres}
+use Rattle.alike.proofs.Words.{same-truth, word-of, NumberOf, number-of, pair-of, heres, theres}
 use Rattle.alike.proofs.Surviving.{part-small}
 
 -- what a list is mapped to
@@ -52,17 +53,37 @@ abbrev inside : ℕ → List ℕ → Bool
 inside s xs = answer (dec-in ℕ-discrete s xs)
 
 -- a part of t has no place that t lacks
-here-there : (t n : ℕ) → t < 2 ^ 64 → (s j : ℕ) → hereAt (setOf (part n (members t))) s j ≡ true → thereAt t s j ≡ true
+here-there : (t n : ℕ) → t < 2 ^ 64 → (s i : ℕ) → hereAt (setOf (part n (members t))) s i ≡ true → thereAt t s i ≡ true
 unfolding hereAt thereAt
-here-there t n small s j = by (ltb s 3)
+here-there t n small s i = by (ltb s innerPlaces)
   where
-    first : (x y : Bool) → (x && y) ≡ true → x ≡ true
-    first true y e = refl
-    first false y e = absurd (false≢true e)
-
-    by : (b : Bool) → cond b (has j (2 * s + 1) && has j (2 * s)) (has (setOf (part n (members t))) s) ≡ true → cond b (has j (2 * s + 1)) (has t s) ≡ true
-    by true e = first (has j (2 * s + 1)) (has j (2 * s)) e
+    by : (b : Bool) → cond b (eqb (third i s) 2) (has (setOf (part n (members t))) s) ≡ true → cond b (ltb 0 (third i s)) (has t s) ≡ true
+    by true e = lt-ltb 0 (third i s) (omega (arith, eqb-true (third i s) 2 e))
     by false e = member-members t small s .1 (part-inside n (members t) s (member-setOf (part n (members t)) s .0 e))
+
+-- the digit in base three of a place that is in the greater set or not, and in the smaller
+state : Bool → Bool → ℕ
+state there here = cond here 2 (cond there 1 0)
+
+state-low : (there here : Bool) → state there here < 3
+unfolding state
+state-low there true = omega arith
+state-low true false = omega arith
+state-low false false = omega arith
+
+-- what it says of both
+state-there : {X Y : Type 0} (there here : Bool) → Says there X → Says here Y → (Y → X) → ltb 0 (state there here) ≡ there
+unfolding state
+state-there true true x y f = refl
+state-there true false x y f = refl
+state-there false true x y f = absurd (false≢true (x .1 (f (y .0 refl))))
+state-there false false x y f = refl
+
+state-here : (there here : Bool) → eqb (state there here) 2 ≡ here
+unfolding state
+state-here there true = refl
+state-here true false = refl
+state-here false false = refl
 
 module _ (places : List ℕ) (width outer set : ℕ) (fits : set < 2 ^ 64) (small : outer < 2 ^ 64) (its : Outer width outer)
     (seated : Seated places width set) where
@@ -70,9 +91,9 @@ module _ (places : List ℕ) (width outer set : ℕ) (fits : set < 2 ^ 64) (smal
   abbrev at : List ℕ → List ℕ
   at X = map (placeOf places) X
 
-  -- those from 3 on
+  -- those that are the same in all of a block
   outerOf : List ℕ → List ℕ
-  outerOf X = those (λ s. decLe 3 s) (at X)
+  outerOf X = those (λ s. decLe innerPlaces s) (at X)
 
   -- an atom of the set is in a part of it exactly if its place is
   place-in : (X : List ℕ) → X ⊆ members set → (p : ℕ) → p ∈ members set → (placeOf places p ∈ at X) ↔ (p ∈ X)
@@ -90,7 +111,7 @@ module _ (places : List ℕ) (width outer set : ℕ) (fits : set < 2 ^ 64) (smal
     outer-there : outerOf T ⊆ members outer
     unfolding outerOf
     outer-there s m =
-        let k = in-those (λ s. decLe 3 s) (at T) s .0 m in
+        let k = in-those (λ s. decLe innerPlaces s) (at T) s .0 m in
         let q = in-map (placeOf places) T s .0 (k .0) in
         let l = seated .below (q .0) (member-members set fits (q .0) .1 (t-in (q .0) (q .1))) in
         member-members outer small s .0 (its s .1 (k .1, omega (arith, l, q .2)))
@@ -105,12 +126,12 @@ module _ (places : List ℕ) (width outer set : ℕ) (fits : set < 2 ^ 64) (smal
     unfolding t
     t-fits = part-small 64 outer m small small
 
-    in-t : (s : ℕ) → Member s t ↔ ((s ∈ at T) × (3 ≤ s))
+    in-t : (s : ℕ) → Member s t ↔ ((s ∈ at T) × (innerPlaces ≤ s))
     unfolding m t outerOf
     in-t s =
         let set-iff = member-setOf (part m (members outer)) s in
         let same = every-part outer-there .2 in
-        let those-iff = in-those (λ s. decLe 3 s) (at T) s in
+        let those-iff = in-those (λ s. decLe innerPlaces s) (at T) s in
         (λ k. those-iff .0 (same .0 s (set-iff .0 k)), λ k. set-iff .1 (same .1 s (those-iff .1 k)))
 
     higher : (s : ℕ) → s ∈ at H → s ∈ at T
@@ -118,7 +139,7 @@ module _ (places : List ℕ) (width outer set : ℕ) (fits : set < 2 ^ 64) (smal
 
     outer-here : outerOf H ⊆ members t
     unfolding outerOf
-    outer-here s k = let q = in-those (λ s. decLe 3 s) (at H) s .0 k in member-members t t-fits s .0 (in-t s .1 (higher s (q .0), q .1))
+    outer-here s k = let q = in-those (λ s. decLe innerPlaces s) (at H) s .0 k in member-members t t-fits s .0 (in-t s .1 (higher s (q .0), q .1))
 
     n : ℕ
     n = every-part outer-here .0
@@ -126,83 +147,75 @@ module _ (places : List ℕ) (width outer set : ℕ) (fits : set < 2 ^ 64) (smal
     h : ℕ
     h = setOf (part n (members t))
 
-    in-h : (s : ℕ) → Member s h ↔ ((s ∈ at H) × (3 ≤ s))
+    in-h : (s : ℕ) → Member s h ↔ ((s ∈ at H) × (innerPlaces ≤ s))
     unfolding n h outerOf
     in-h s =
         let set-iff = member-setOf (part n (members t)) s in
         let same = every-part outer-here .2 in
-        let those-iff = in-those (λ s. decLe 3 s) (at H) s in
+        let those-iff = in-those (λ s. decLe innerPlaces s) (at H) s in
         (λ k. those-iff .0 (same .0 s (set-iff .0 k)), λ k. set-iff .1 (same .1 s (those-iff .1 k)))
 
-    -- digits 2s and 2s+1 of a pair's number, for the places 0, 1 and 2
-    digit : ℕ → Bool
-    digit i = cond (has i 0) (inside (i / 2) (at T)) (inside (i / 2) (at H))
+    -- the digits of a pair's number, for the places 0 to 4
+    digits : ℕ → ℕ
+    digits s = state (inside s (at T)) (inside s (at H))
 
-    j : ℕ
-    j = word-of 6 digit .word
+    numbered : NumberOf innerPlaces digits
+    unfolding digits
+    numbered = number-of innerPlaces digits (λ s. state-low (inside s (at T)) (inside s (at H)))
 
-    j-below : j < 64
-    unfolding j
-    j-below = word-of 6 digit .small
+    i : ℕ
+    i = numbered .number
 
-    there-digit : (s : ℕ) → s < 3 → has j (2 * s + 1) ≡ inside s (at T)
-    unfolding j digit has
+    i-below : i < pairsAtOnce
+    unfolding i
+    i-below = omega (arith, numbered .small)
+
+    there-digit : (s : ℕ) → s < innerPlaces → ltb 0 (third i s) ≡ inside s (at T)
+    unfolding i digits
     there-digit s l =
-        let odd : (2 * s + 1) % 2 ≡ 1 = omega arith in
-        let half : (2 * s + 1) / 2 ≡ s = omega arith in
-        word-of 6 digit .digits (2 * s + 1) (omega arith)
-        ∙ ap (λ (d : ℕ). cond (eqb d 1) (inside ((2 * s + 1) / 2) (at T)) (inside ((2 * s + 1) / 2) (at H))) odd
-        ∙ ap (λ (x : ℕ). inside x (at T)) half
+        ap (ltb 0) (numbered .digits s l)
+        ∙ state-there (inside s (at T)) (inside s (at H)) (answer-says (dec-in ℕ-discrete s (at T))) (answer-says (dec-in ℕ-discrete s (at H))) (higher s)
 
-    here-digit : (s : ℕ) → s < 3 → has j (2 * s) ≡ inside s (at H)
-    unfolding j digit has
-    here-digit s l =
-        let even : (2 * s) % 2 ≡ 0 = omega arith in
-        let half : (2 * s) / 2 ≡ s = omega arith in
-        word-of 6 digit .digits (2 * s) (omega arith)
-        ∙ ap (λ (d : ℕ). cond (eqb d 1) (inside ((2 * s) / 2) (at T)) (inside ((2 * s) / 2) (at H))) even
-        ∙ ap (λ (x : ℕ). inside x (at H)) half
+    here-digit : (s : ℕ) → s < innerPlaces → eqb (third i s) 2 ≡ inside s (at H)
+    unfolding i digits
+    here-digit s l = ap (λ (d : ℕ). eqb d 2) (numbered .digits s l) ∙ state-here (inside s (at T)) (inside s (at H))
 
-    -- pair j has a place where the sets have it
-    there-says : (s : ℕ) → Says (thereAt t s j) (s ∈ at T)
+    -- the pair has a place where the sets have it
+    there-says : (s : ℕ) → Says (thereAt t s i) (s ∈ at T)
     unfolding thereAt
-    there-says s = by (decLt s 3)
+    there-says s = by (decLt s innerPlaces)
       where
-        by : Dec (s < 3) → Says (cond (ltb s 3) (has j (2 * s + 1)) (has t s)) (s ∈ at T)
+        by : Dec (s < innerPlaces) → Says (cond (ltb s innerPlaces) (ltb 0 (third i s)) (has t s)) (s ∈ at T)
         by (yes l) =
             subst (λ (x : Bool). Says x (s ∈ at T))
-            (sym (ap (λ (x : Bool). cond x (has j (2 * s + 1)) (has t s)) (lt-ltb s 3 l) ∙ there-digit s l)) (answer-says (dec-in ℕ-discrete s (at T)))
+            (sym (ap (λ (x : Bool). cond x (ltb 0 (third i s)) (has t s)) (lt-ltb s innerPlaces l) ∙ there-digit s l))
+            (answer-says (dec-in ℕ-discrete s (at T)))
         by (no u) =
-            subst (λ (x : Bool). Says x (s ∈ at T)) (sym (ap (λ (x : Bool). cond x (has j (2 * s + 1)) (has t s)) (le-ltb s 3 (omega arith))))
+            subst (λ (x : Bool). Says x (s ∈ at T)) (sym (ap (λ (x : Bool). cond x (ltb 0 (third i s)) (has t s)) (le-ltb s innerPlaces (omega arith))))
             (λ k. in-t s .0 k .0, λ k. in-t s .1 (k, omega arith))
 
-    here-says : (s : ℕ) → Says (hereAt h s j) (s ∈ at H)
+    here-says : (s : ℕ) → Says (hereAt h s i) (s ∈ at H)
     unfolding hereAt
-    here-says s = by (decLt s 3)
+    here-says s = by (decLt s innerPlaces)
       where
-        both : Says (inside s (at T) && inside s (at H)) (s ∈ at H)
-        both =
-            let says = says-and (inside s (at T)) (inside s (at H)) (answer-says (dec-in ℕ-discrete s (at T))) (answer-says (dec-in ℕ-discrete s (at H))) in
-            (λ e. says .0 e .1, λ k. says .1 (higher s k, k))
-
-        by : Dec (s < 3) → Says (cond (ltb s 3) (has j (2 * s + 1) && has j (2 * s)) (has h s)) (s ∈ at H)
+        by : Dec (s < innerPlaces) → Says (cond (ltb s innerPlaces) (eqb (third i s) 2) (has h s)) (s ∈ at H)
         by (yes l) =
             subst (λ (x : Bool). Says x (s ∈ at H))
-            (sym (ap (λ (x : Bool). cond x (has j (2 * s + 1) && has j (2 * s)) (has h s)) (lt-ltb s 3 l) ∙ ap₂ _&&_ (there-digit s l) (here-digit s l))) both
+            (sym (ap (λ (x : Bool). cond x (eqb (third i s) 2) (has h s)) (lt-ltb s innerPlaces l) ∙ here-digit s l))
+            (answer-says (dec-in ℕ-discrete s (at H)))
         by (no u) =
-            subst (λ (x : Bool). Says x (s ∈ at H))
-            (sym (ap (λ (x : Bool). cond x (has j (2 * s + 1) && has j (2 * s)) (has h s)) (le-ltb s 3 (omega arith))))
+            subst (λ (x : Bool). Says x (s ∈ at H)) (sym (ap (λ (x : Bool). cond x (eqb (third i s) 2) (has h s)) (le-ltb s innerPlaces (omega arith))))
             (λ k. in-h s .0 k .0, λ k. in-h s .1 (k, omega arith))
 
     h′ : ℕ
-    h′ = word-of 64 (heres places h t j) .word
+    h′ = word-of 64 (heres places h t i) .word
 
     t′ : ℕ
-    t′ = word-of 64 (theres places h t j) .word
+    t′ = word-of 64 (theres places h t i) .word
 
-    pair : Pair places h t j h′ t′
+    pair : Pair places h t i h′ t′
     unfolding h′ t′
-    pair = pair-of places h t j
+    pair = pair-of places h t i
 
     -- at the atoms of the set the pair is (H,T)
     agree-there : (p : ℕ) → p ∈ members set → (p ∈ T) ↔ (p ∈ members t′)
@@ -245,10 +258,10 @@ module _ (places : List ℕ) (width outer set : ℕ) (fits : set < 2 ^ 64) (smal
         let p = pair H T t-in h-in in
         alike A B (λ q u. agree-here H T t-in h-in q (within q u)) (λ q u. agree-there H T t-in h-in q (within q u))
         (words-sets _ _ (p .here-small) (p .there-small) .0 (over (m H T t-in h-in) (every-part (outer-there H T t-in h-in) .1)
-        (n H T t-in h-in) (every-part (outer-here H T t-in h-in) .1) (j H T t-in h-in) (j-below H T t-in h-in) _ _ p)))
+        (n H T t-in h-in) (every-part (outer-here H T t-in h-in) .1) (i H T t-in h-in) (i-below H T t-in h-in) _ _ p)))
 
     from-sets : Equal A B → AlikeOver b places outer a x
-    from-sets e m l n k j i h t pair = words-sets h t (pair .here-small) (pair .there-small) .1 (e (members h) (members t) inside-there)
+    from-sets e m l n k i low-i h t pair = words-sets h t (pair .here-small) (pair .there-small) .1 (e (members h) (members t) inside-there)
       where
         there : ℕ
         there = setOf (part m (members outer))
@@ -258,7 +271,7 @@ module _ (places : List ℕ) (width outer set : ℕ) (fits : set < 2 ^ 64) (smal
             let here = member-members h (pair .here-small) p .1 u in
             let low = member-lt 64 h p (pair .here-small) here in
             member-members t (pair .there-small) p .0 (pair .there p low
-            ∙ here-there there n (part-small 64 outer m small small) (placeOf places p) j (sym (pair .here p low) ∙ here))
+            ∙ here-there there n (part-small 64 outer m small small) (placeOf places p) i (sym (pair .here p low) ∙ here))
 
     -- alike in all pairs of places exactly if equal
     pub alike-iff : AlikeOver b places outer a x ↔ Equal A B

@@ -1,6 +1,7 @@
 -- The laws of formulas that hold alike.
-pub mod Listing
+pub mod BlockDigits
 pub mod TruthBits
+pub mod Listing
 pub mod Remaining
 pub mod Words
 pub mod Surviving

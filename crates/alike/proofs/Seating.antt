@@ -17,7 +17,7 @@ use Rattle.atomset.proofs.Digits.{has-not, has-zero, same-members}
 use Rattle.atomset.proofs.Membership.{member-lt}
 use Rattle.atomset.proofs.Members.{member-members}
 use Rattle.atomset.proofs.SetOf.{member-setOf, setOf-lt}
-use Rattle.alike.specs.Truths.{placeOf}
+use Rattle.alike.specs.Truths.{innerPlaces, placeOf}
 use Rattle.alike.specs.Survivors.{mostPlaces}
 use Rattle.alike.specs.Places.{Seated, SeatedAll, PlacesKept, SeatedToo, OuterPlaces}
 use Rattle.alike.proofs.Remaining.{member-insert, member-walk}
@@ -188,7 +188,7 @@ module _ {places : List ℕ} {n atoms : ℕ} where
       gone : (p : ℕ) → Member p rest → ⊥
       gone p m = List·Memᴰ·not-nil (subst (λ (xs : List ℕ). p ∈ xs) none (member-members rest (s .small) p .0 m))
 
--- ---- the places from 3 on
+-- ---- the places from 5 on
 
 -- a word of n ones
 pub ones-iff : (n i : ℕ) → Member i (2 ^ n - 1) ↔ (i < n)
@@ -209,8 +209,8 @@ small-by-digits k w l fits below = subst (λ (x : ℕ). x < 2 ^ k) (sym same) (l
         let its = member-setOf (members w) i in
         same-truth (has w i) (has (setOf (members w)) i) (λ k. its .1 (mem .0 k), λ k. mem .1 (its .0 k)))
 
--- n ones but for the first three
-pub outer-ones : (n w : ℕ) → n ≤ mostPlaces → w < 2 ^ 64 → ((i : ℕ) → has w i ≡ (has (2 ^ n - 1) i && not (has 7 i))) → OuterPlaces n w
+-- n ones but for the first five
+pub outer-ones : (n w : ℕ) → n ≤ mostPlaces → w < 2 ^ 64 → ((i : ℕ) → has w i ≡ (has (2 ^ n - 1) i && not (has 31 i))) → OuterPlaces n w
 outer-ones n w few fits e = record { few = small-by-digits mostPlaces w (omega arith) fits (λ i m. omega (arith, its i .0 m .1)); its = its }
   where
     split : (a b : Bool) → (a && not b) ≡ true → (a ≡ true) × (b ≡ true → ⊥)
@@ -223,12 +223,12 @@ outer-ones n w few fits e = record { few = small-by-digits mostPlaces w (omega a
     join true false h n = refl
     join false b h n = absurd (false≢true h)
 
-    its : (s : ℕ) → Member s w ↔ ((3 ≤ s) × (s < n))
+    its : (s : ℕ) → Member s w ↔ ((innerPlaces ≤ s) × (s < n))
     its s = (
-      λ m. let k = split (has (2 ^ n - 1) s) (has 7 s) (sym (e s) ∙ m) in (by (decLt s 3) (λ l. k .1 (ones-iff 3 s .1 l)), ones-iff n s .0 (k .0)),
-      λ (l, k). e s ∙ join (has (2 ^ n - 1) s) (has 7 s) (ones-iff n s .1 k) (λ h. let low = ones-iff 3 s .0 h in omega arith),
+      λ m. let k = split (has (2 ^ n - 1) s) (has 31 s) (sym (e s) ∙ m) in (by (decLt s innerPlaces) (λ l. k .1 (ones-iff innerPlaces s .1 l)), ones-iff n s .0 (k .0)),
+      λ (l, k). e s ∙ join (has (2 ^ n - 1) s) (has 31 s) (ones-iff n s .1 k) (λ h. let low = ones-iff innerPlaces s .0 h in omega arith),
     )
       where
-        by : Dec (s < 3) → (s < 3 → ⊥) → 3 ≤ s
+        by : Dec (s < innerPlaces) → (s < innerPlaces → ⊥) → innerPlaces ≤ s
         by (yes l) n = absurd (n l)
         by (no u) n = omega arith

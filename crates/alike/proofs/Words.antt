@@ -1,19 +1,21 @@
--- Words by their digits: one with any given digits exists, so each of the 64 pairs is a pair of sets of atoms; and words of truths are
--- equal exactly if the formulas hold alike in all 64.
+-- Words by their digits: one with any given digits exists, so each of the 256 pairs is a pair of sets of atoms; and the words of two truths
+-- are the same exactly if the formulas hold alike in all 256. Numbers by their digits in base three.
 use Prim.Native.Nat.{ℕ, zero, suc, _+_, _*_, _/_, _%_, _^_, _<_}
 use native.Mathlib.Nat.{pow-suc}
 use native.Mathlib.Omega.{arith}
 use mathlib.Core.Bool.{Bool, true, false}
 use mathlib.Core.List.{List}
 use mathlib.Core.Logic.{_↔_}
-use mathlib.Core.Path.{_≡_, refl, sym, ap, _∙_}
+use mathlib.Core.Path.{_≡_, refl, sym, ap, subst, _∙_}
 use lib.Dec.{eqb}
 use lib.ListN.{getD}
 use Rattle.format.specs.File.{Body}
 use Rattle.atomset.specs.AtomSet.{has}
-use Rattle.atomset.proofs.Digits.{same-members}
-use Rattle.alike.specs.Truths.{hereAt, thereAt, placeOf, Pair, Right}
-use Rattle.alike.specs.Survivors.{SameWord, AlikeAt}
+use Rattle.alike.specs.Blocks.{SameWords, hereIn, alsoIn, truthIn}
+use Rattle.alike.specs.declared.blocks.Block.{Block}
+use Rattle.alike.specs.Truths.{third, hereAt, thereAt, placeOf, View, slotOf, Pair, Seen, Right}
+use Rattle.alike.specs.Survivors.{SameHere, AlikeAt}
+use Rattle.alike.proofs.BlockDigits.{Small, same-digits, here-small, also-small}
 
 -- two tests that say the same are one
 pub same-truth : (a b : Bool) → (a ≡ true) ↔ (b ≡ true) → a ≡ b
@@ -46,15 +48,35 @@ word-of (suc k) f = by (f 0) refl (word-of k (λ i. f (suc i)))
     by true e w = record { word = 1 + 2 * w .word; small = omega (arith, pow-suc 2 k, w .small); digits = odd f w e }
     by false e w = record { word = 2 * w .word; small = omega (arith, pow-suc 2 k, w .small); digits = even f w e }
 
-module _ (places : List ℕ) (h t j : ℕ) where
+-- a number of k digits in base three with those given
+pub record NumberOf (k : ℕ) (f : ℕ → ℕ) : Type 0 where
+  pub number : ℕ
+  pub small : number < 3 ^ k
+  pub digits : (s : ℕ) → s < k → third number s ≡ f s
+
+-- one digit more, below the others
+more-digits : {k : ℕ} (f : ℕ → ℕ) (m : NumberOf k (λ s. f (suc s))) → f 0 < 3 → (s : ℕ) → s < suc k → third (f 0 + 3 * m .number) s ≡ f s
+unfolding third
+more-digits f m low zero l = omega arith
+more-digits f m low (suc s) l =
+    let rest : (f 0 + 3 * m .number) / 3 ≡ m .number = omega arith in
+    ap (λ (x : ℕ). third x s) rest ∙ m .digits s (omega arith)
+
+pub number-of : (k : ℕ) (f : ℕ → ℕ) → ((s : ℕ) → f s < 3) → NumberOf k f
+number-of zero f low = record { number = 0; small = omega arith; digits = λ s l. absurd (omega arith) }
+number-of (suc k) f low =
+    let m = number-of k (λ s. f (suc s)) (λ s. low (suc s)) in
+    record { number = f 0 + 3 * m .number; small = omega (arith, pow-suc 3 k, m .small, low 0); digits = more-digits f m (low 0) }
+
+module _ (places : List ℕ) (h t n : ℕ) where
   abbrev pub heres : ℕ → Bool
-  heres p = hereAt h (placeOf places p) j
+  heres p = hereAt h (placeOf places p) n
 
   abbrev pub theres : ℕ → Bool
-  theres p = thereAt t (placeOf places p) j
+  theres p = thereAt t (placeOf places p) n
 
-  -- pair j as two sets of atoms
-  pub pair-of : Pair places h t j (word-of 64 heres .word) (word-of 64 theres .word)
+  -- pair n as two sets of atoms
+  pub pair-of : Pair places h t n (word-of 64 heres .word) (word-of 64 theres .word)
   pair-of = record {
     here-small = word-of 64 heres .small;
     there-small = word-of 64 theres .small;
@@ -62,13 +84,41 @@ module _ (places : List ℕ) (h t j : ℕ) where
     there = word-of 64 theres .digits;
   }
 
--- one word for both exactly if they hold alike
-pub same-word-iff : (b : Body) (places : List ℕ) (h t : ℕ) (heres theres : List ℕ) (a x : ℕ) → Right b places h t heres theres a
-    → Right b places h t heres theres x
-    → ((i : ℕ) → getD heres i 0 < 2 ^ 64) → SameWord heres a x ↔ AlikeAt b places h t a x
-same-word-iff b places h t heres theres a x own other small = (
-  λ same j l h′ t′ pair. sym (other j l h′ t′ pair .0) ∙ ap (λ (w : ℕ). has w j) same ∙ own j l h′ t′ pair .0,
-  λ alike. same-members 64 (getD heres x 0) (getD heres a 0) (small x) (small a) (λ j l.
-      let pair = pair-of places h t j in
-      other j l _ _ pair .0 ∙ alike j l _ _ pair ∙ sym (own j l _ _ pair .0)),
-)
+-- the same words for both exactly if they hold alike, with one smaller set
+seen-iff : (b : Body) (places : List ℕ) (h t a x : ℕ) (u v : View) → Seen b places h t a u → Seen b places h t x v → Small (u .here) → Small (v .here)
+    → SameWords (v .here) (u .here) ↔ AlikeAt b places h t a x
+seen-iff b places h t a x u v own other own-small other-small =
+    let same = same-digits (v .here) (u .here) other-small own-small in (
+      λ s n l h′ t′ pair. sym (other n l h′ t′ pair .0) ∙ same .0 s n l ∙ own n l h′ t′ pair .0,
+      λ alike. same .1 (λ n l.
+          let pair = pair-of places h t n in
+          other n l _ _ pair .0 ∙ alike n l _ _ pair ∙ sym (own n l _ _ pair .0)),
+    )
+
+-- and with both
+pub same-here-iff : (b : Body) (places : List ℕ) (h g t : ℕ) (table slots : List ℕ) (a x : ℕ) → Right b places h g t a (truthIn table (slotOf slots a))
+    → Right b places h g t x (truthIn table (slotOf slots x))
+    → ((i : ℕ) → getD table i 0 < 2 ^ 64) → SameHere table slots a x ↔ (AlikeAt b places h t a x × AlikeAt b places g t a x)
+same-here-iff b places h g t table slots a x own other small =
+    let first = seen-iff b places h t a x _ _ (own .first) (other .first) (here-small table small _) (here-small table small _) in
+    let second = seen-iff b places g t a x _ _ (own .second) (other .second) (also-small table small _) (also-small table small _) in
+    (λ (p, q). (first .0 p, second .0 q), λ (p, q). (first .1 p, second .1 q))
+
+-- equal blocks have the same words as each other's
+same-as : {x x′ y y′ : Block} → x ≡ x′ → y ≡ y′ → SameWords x y → SameWords x′ y′
+same-as {x} {x′} {y} {y′} e f s = subst (SameWords x′) f (subst (λ (z : Block). SameWords z y) e s)
+
+-- two formulas compared, by what was read of each
+pub same-at : (table slots side : List ℕ) (own c : ℕ) {here also here′ also′ : Block} {i j k x : ℕ}
+    → here ≡ hereIn table i → i ≡ slotOf slots own → also ≡ alsoIn table j → j ≡ slotOf slots own
+    → here′ ≡ hereIn table k → also′ ≡ alsoIn table k → k ≡ slotOf slots x → x ≡ getD side c 0
+    → {r : Bool} → (r ≡ true) ↔ (SameWords here′ here × SameWords also′ also) → (r ≡ true) ↔ SameHere table slots own (getD side c 0)
+same-at table slots side own c {here} {also} {here′} {also′} a i b j d e k x {r} says =
+    let slot = k ∙ ap (slotOf slots) x in
+    let first = d ∙ ap (hereIn table) slot in
+    let second = e ∙ ap (alsoIn table) slot in
+    let one = a ∙ ap (hereIn table) i in
+    let two = b ∙ ap (alsoIn table) j in (
+      λ t. let s = says .0 t in (same-as first one (s .0), same-as second two (s .1)),
+      λ (p, q). says .1 (same-as (sym first) (sym one) p, same-as (sym second) (sym two) q),
+    )

@@ -37,13 +37,6 @@ pub record Bounded (own : ℕ) (side : List ℕ) (n : ℕ) : Type 0 where
   pub few : n ≤ mostFormulas
   pub past : (m : ℕ) → m ≤ mostFormulas → own < m → ((x : ℕ) → x ∈ side → x < m) → (own < n) × ((x : ℕ) → x ∈ side → x < n) × (n ≤ m)
 
--- tables of their full lengths
-pub record Room (marks list heres theres : List ℕ) : Type 0 where
-  pub marks-long : length marks ≡ mostFormulas
-  pub list-long : length list ≡ mostFormulas
-  pub heres-long : length heres ≡ mostFormulas
-  pub theres-long : length theres ≡ mostFormulas
-
 -- a formula and the candidates' formulas are of a good body
 pub record Held (b : Body) (formulas : List ℕ) (own : ℕ) (side : List ℕ) : Type 0 where
   pub formulas-held : Formulas b formulas

@@ -1,3 +1,4 @@
+pub mod Blocks
 pub mod Under
 pub mod Truths
 pub mod Survivors

@@ -6,7 +6,7 @@ use mathlib.Core.Logic.{_↔_}
 use mathlib.Core.Path.{_≡_}
 use lib.ListN.{length}
 use Rattle.atomset.specs.AtomSet.{Member, members}
-use Rattle.alike.specs.Truths.{placeOf}
+use Rattle.alike.specs.Truths.{innerPlaces, placeOf}
 use Rattle.alike.specs.Survivors.{mostPlaces}
 
 -- each atom of the set has a place below n, and no two have one place
@@ -14,9 +14,9 @@ pub record Seated (places : List ℕ) (n set : ℕ) : Type 0 where
   pub below : (p : ℕ) → Member p set → placeOf places p < n
   pub apart : (p q : ℕ) → Member p set → Member q set → placeOf places p ≡ placeOf places q → p ≡ q
 
--- the places from 3 on that are below n
+-- the places that do not go through all in one block and are below n
 abbrev pub Outer : ℕ → ℕ → Type 0
-Outer n set = (s : ℕ) → Member s set ↔ ((3 ≤ s) × (s < n))
+Outer n set = (s : ℕ) → Member s set ↔ ((innerPlaces ≤ s) × (s < n))
 
 -- the atoms of the set have places of their own, as many as they are
 pub record SeatedAll (set : ℕ) (before after : List ℕ) : Type 0 where
@@ -33,7 +33,7 @@ pub record SeatedToo (set n : ℕ) (before after : List ℕ) (r : Bool) : Type 0
   pub kept : PlacesKept before after
   pub seated : r ≡ true → Seated after n set
 
--- the places from 3 on below n, of at most 8
+-- so is the set, and there are at most 8 places
 pub record OuterPlaces (n set : ℕ) : Type 0 where
   pub few : set < 2 ^ mostPlaces
   pub its : Outer n set

@@ -1,80 +1,127 @@
--- The truth of formulas in 64 pairs at once. Pair j of the 64 gives the places 0, 1 and 2 what two digits of j say of each, and all
--- pairs have one h and t for the places from 3 on.
-use Prim.Native.Nat.{ℕ, _+_, _*_, _^_, _<_}
+-- The truth of formulas in 256 pairs at once. Pair n of the 256 gives the places 0 to 4 what the digits of n in base three say, and all
+-- pairs have one h and t for the places from 5 on.
+use Prim.Native.Nat.{ℕ, zero, suc, _*_, _/_, _%_, _^_, _≤_, _<_}
 use mathlib.Core.Bool.{Bool, cond, not, _&&_, _||_}
 use mathlib.Core.List.{List}
 use mathlib.Core.Path.{_≡_}
-use lib.Dec.{ltb}
+use lib.Dec.{eqb, ltb}
 use lib.ListN.{length, getD}
 use Rattle.equilibrium.specs.Meaning.{_∈_}
 use Rattle.format.specs.File.{Body, decodedAt}
-use Rattle.format.specs.Tables.{mostFormulas}
 use Rattle.atomset.specs.AtomSet.{has}
 use Rattle.tables.specs.Holding.{Formulas}
 use Rattle.tables.specs.declared.records.NodeRecord.{NodeRecord}
 use Rattle.pairs.specs.Pairs.{holdsIn}
 use Rattle.pairs.specs.Truths.{byWord}
-use Rattle.alike.specs.Under.{PartsAfter}
+use Rattle.alike.specs.Blocks.{pairsAtOnce, digit, truthWords, truthIn, Roomy}
+use Rattle.alike.specs.Under.{PartOf, PartsAfter}
+use Rattle.alike.specs.declared.blocks.Block.{Block}
+use Rattle.alike.specs.declared.blocks.Truth.{Truth}
 
--- the greater set of pair j has the place
+-- how many places go through all that they can be in one block
+abbrev pub innerPlaces : ℕ
+innerPlaces = 5
+
+-- digit s of a number in base three
+unfoldable pub third : ℕ → ℕ → ℕ
+third n zero = n % 3
+third n (suc s) = third (n / 3) s
+
+-- the greater set of pair n has the place: its digit is 1 or 2
 unfoldable pub thereAt : ℕ → ℕ → ℕ → Bool
-thereAt t place j = cond (ltb place 3) (has j (2 * place + 1)) (has t place)
+thereAt t place n = cond (ltb place innerPlaces) (ltb 0 (third n place)) (has t place)
 
--- and so does the smaller set
+-- and so does the smaller set: its digit is 2
 unfoldable pub hereAt : ℕ → ℕ → ℕ → Bool
-hereAt h place j = cond (ltb place 3) (has j (2 * place + 1) && has j (2 * place)) (has h place)
+hereAt h place n = cond (ltb place innerPlaces) (eqb (third n place) 2) (has h place)
 
 -- the place of an atom
 abbrev pub placeOf : List ℕ → ℕ → ℕ
 placeOf places p = getD places p 0
 
--- digit j of the word that a table has for formula i
-abbrev pub bitOf : List ℕ → ℕ → ℕ → Bool
-bitOf table i j = has (getD table i 0) j
+-- a truth, seen with one of its two smaller sets
+pub record View : Type 0 where
+  pub here : Block
+  pub there : Block
 
--- the truth in (t,t) of pair j, and in the pair itself, of the formula of a record
-unfoldable pub judgedThere : NodeRecord → List ℕ → ℕ → List ℕ → ℕ → Bool
-judgedThere n places t theres j =
-    let A = bitOf theres (n .first) j in
-    let B = bitOf theres (n .second) j in
-    byWord (n .word) (thereAt t (placeOf places (n .first)) j) (not A) (A && B) (A || B) (not A || B)
+abbrev pub firstOf : Truth → View
+firstOf v = record { here = v .here; there = v .there }
 
-unfoldable pub judgedHere : NodeRecord → List ℕ → ℕ → List ℕ → List ℕ → ℕ → Bool
-judgedHere n places h heres theres j =
-    let A = bitOf theres (n .first) j in
-    let B = bitOf theres (n .second) j in
-    let C = bitOf heres (n .first) j in
-    let D = bitOf heres (n .second) j in
-    byWord (n .word) (hereAt h (placeOf places (n .first)) j) (not A) (C && D) (C || D) ((not A || B) && (not C || D))
+abbrev pub secondOf : Truth → View
+secondOf v = record { here = v .also; there = v .there }
 
--- two words say so of all 64 pairs
-abbrev pub JudgedBits : NodeRecord → List ℕ → ℕ → ℕ → List ℕ → List ℕ → ℕ → ℕ → Type 0
-JudgedBits n places h t heres theres here there =
-    (j : ℕ) → j < 64 → (has here j ≡ judgedHere n places h heres theres j) × (has there j ≡ judgedThere n places t theres j)
+-- the truth of the atoms at a place
+abbrev pub PlaceSeen : ℕ → ℕ → ℕ → View → Type 0
+PlaceSeen place h t v = (n : ℕ) → n < pairsAtOnce → (digit (v .here) n ≡ hereAt h place n) × (digit (v .there) n ≡ thereAt t place n)
 
--- pair j, as two sets of atoms: an atom is in one if its place is
-pub record Pair (places : List ℕ) (h t j h′ t′ : ℕ) : Type 0 where
+pub record PlaceTruth (place h g t : ℕ) (v : Truth) : Type 0 where
+  pub first : PlaceSeen place h t (firstOf v)
+  pub second : PlaceSeen place g t (secondOf v)
+
+-- the truth in (t,t) of pair n, and in the pair itself, of the formula of a record, where x and y are the truths of its parts
+unfoldable pub judgedThere : NodeRecord → List ℕ → ℕ → View → View → ℕ → Bool
+judgedThere r places t x y n =
+    let A = digit (x .there) n in
+    let B = digit (y .there) n in
+    byWord (r .word) (thereAt t (placeOf places (r .first)) n) (not A) (A && B) (A || B) (not A || B)
+
+unfoldable pub judgedHere : NodeRecord → List ℕ → ℕ → View → View → ℕ → Bool
+judgedHere r places h x y n =
+    let A = digit (x .there) n in
+    let B = digit (y .there) n in
+    let C = digit (x .here) n in
+    let D = digit (y .here) n in
+    byWord (r .word) (hereAt h (placeOf places (r .first)) n) (not A) (C && D) (C || D) ((not A || B) && (not C || D))
+
+-- a truth says so of all pairs
+abbrev pub JudgedSeen : NodeRecord → List ℕ → ℕ → ℕ → View → View → View → Type 0
+JudgedSeen r places h t x y v =
+    (n : ℕ) → n < pairsAtOnce → (digit (v .here) n ≡ judgedHere r places h x y n) × (digit (v .there) n ≡ judgedThere r places t x y n)
+
+pub record Judged (r : NodeRecord) (places : List ℕ) (h g t : ℕ) (x y v : Truth) : Type 0 where
+  pub first : JudgedSeen r places h t (firstOf x) (firstOf y) (firstOf v)
+  pub second : JudgedSeen r places g t (secondOf x) (secondOf y) (secondOf v)
+
+-- the slot of a formula
+abbrev pub slotOf : List ℕ → ℕ → ℕ
+slotOf slots i = getD slots i 0
+
+-- Slot k has the truth of the formula of a record by those at its parts' slots, if the table has these; the other slots have what they
+-- had.
+pub record JudgedNext (r : NodeRecord) (slots places : List ℕ) (h g t k : ℕ) (table table′ : List ℕ) : Type 0 where
+  pub long : length table′ ≡ length table
+  pub own :
+      ((p : ℕ) → PartOf r p → Roomy table (slotOf slots p))
+      → Judged r places h g t (truthIn table (slotOf slots (r .first))) (truthIn table (slotOf slots (r .second))) (truthIn table′ k)
+  pub others : (i : ℕ) → (i ≡ k → ⊥) → truthIn table′ i ≡ truthIn table i
+
+-- pair n, as two sets of atoms: an atom is in one if its place is
+pub record Pair (places : List ℕ) (h t n h′ t′ : ℕ) : Type 0 where
   pub here-small : h′ < 2 ^ 64
   pub there-small : t′ < 2 ^ 64
-  pub here : (p : ℕ) → p < 64 → has h′ p ≡ hereAt h (placeOf places p) j
-  pub there : (p : ℕ) → p < 64 → has t′ p ≡ thereAt t (placeOf places p) j
+  pub here : (p : ℕ) → p < 64 → has h′ p ≡ hereAt h (placeOf places p) n
+  pub there : (p : ℕ) → p < 64 → has t′ p ≡ thereAt t (placeOf places p) n
 
--- the words that two tables have for formula i are its truths in the 64 pairs
-abbrev pub Right : Body → List ℕ → ℕ → ℕ → List ℕ → List ℕ → ℕ → Type 0
-Right b places h t heres theres i =
-    (j : ℕ) → j < 64 → (h′ t′ : ℕ) → Pair places h t j h′ t′
-    → (bitOf heres i j ≡ holdsIn h′ t′ (decodedAt (b .nodes) i)) × (bitOf theres i j ≡ holdsIn t′ t′ (decodedAt (b .nodes) i))
+-- a truth is that of formula i in the 256 pairs
+abbrev pub Seen : Body → List ℕ → ℕ → ℕ → ℕ → View → Type 0
+Seen b places h t i v =
+    (n : ℕ) → n < pairsAtOnce → (h′ t′ : ℕ) → Pair places h t n h′ t′
+    → (digit (v .here) n ≡ holdsIn h′ t′ (decodedAt (b .nodes) i)) × (digit (v .there) n ≡ holdsIn t′ t′ (decodedAt (b .nodes) i))
 
--- a list of formulas of a good body, each of which has its parts after it
-pub record Ready (b : Body) (formulas list : List ℕ) : Type 0 where
+pub record Right (b : Body) (places : List ℕ) (h g t i : ℕ) (v : Truth) : Type 0 where
+  pub first : Seen b places h t i (firstOf v)
+  pub second : Seen b places g t i (secondOf v)
+
+-- a list of formulas of a good body, each of which has its parts after it, and its place there as its slot
+pub record Ready (b : Body) (formulas list slots : List ℕ) : Type 0 where
   pub held : Formulas b formulas
   pub known : (i : ℕ) → i ∈ list → i < length (b .nodes)
   pub ordered : PartsAfter formulas list
+  pub placed : (k : ℕ) → k < length list → slotOf slots (getD list k 0) ≡ k
 
--- the tables keep their lengths; where they have room for all formulas, they have the truths of those of such a list
-pub record JudgedAll (formulas list places : List ℕ) (h t : ℕ) (heres theres heres′ theres′ : List ℕ) : Type 0 where
-  pub here-long : length heres′ ≡ length heres
-  pub there-long : length theres′ ≡ length theres
+-- the table keeps its length; where it has room for such a list, it has the truths of the formulas there
+pub record JudgedAll (formulas list slots places : List ℕ) (h g t : ℕ) (table table′ : List ℕ) : Type 0 where
+  pub long : length table′ ≡ length table
   pub right :
-      (b : Body) → Ready b formulas list → length heres ≡ mostFormulas → length theres ≡ mostFormulas
-      → (i : ℕ) → i ∈ list → Right b places h t heres′ theres′ i
+      (b : Body) → Ready b formulas list slots → truthWords * length list ≤ length table
+      → (i : ℕ) → i ∈ list → Right b places h g t i (truthIn table′ (slotOf slots i))

@@ -4,6 +4,7 @@ use mathlib.Core.List.{List}
 use mathlib.Core.Path.{_≡_}
 use lib.ListN.{length, getD, take, drop}
 use Rattle.equilibrium.specs.Meaning.{_∈_}
+use Rattle.format.specs.Tables.{mostFormulas}
 use Rattle.tables.specs.Records.{nodeAt, recordFrom}
 use Rattle.tables.specs.declared.records.NodeRecord.{NodeRecord}
 
@@ -39,9 +40,17 @@ pub record PartsMarked (formulas : List ℕ) (i : ℕ) (before after : List ℕ)
 abbrev pub PartsAfter : List ℕ → List ℕ → Type 0
 PartsAfter formulas list = (k : ℕ) → k < length list → (p : ℕ) → PartIn formulas (getD list k 0) p → p ∈ drop (suc k) list
 
--- the first n of the list are the formulas under the marked ones before `end`
-pub record Listed (formulas : List ℕ) (end : ℕ) (marks list : List ℕ) (n : ℕ) : Type 0 where
+-- tables of their full lengths
+pub record Room (marks list slots : List ℕ) : Type 0 where
+  pub marks-long : length marks ≡ mostFormulas
+  pub list-long : length list ≡ mostFormulas
+  pub slots-long : length slots ≡ mostFormulas
+
+-- the first n of the list are the formulas under the marked ones before `end`, and each has its place there as its slot
+pub record Listed (formulas : List ℕ) (end : ℕ) (marks list slots : List ℕ) (n : ℕ) : Type 0 where
   pub within : n ≤ length list
+  pub few : n ≤ end
   pub marked : (x : ℕ) → x < end → Marked marks x → x ∈ take n list
   pub below : (x : ℕ) → x ∈ take n list → x < end
   pub ordered : PartsAfter formulas (take n list)
+  pub placed : (k : ℕ) → k < n → getD slots (getD (take n list) k 0) 0 ≡ k

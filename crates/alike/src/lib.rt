@@ -1,25 +1,28 @@
 // Formulas that hold in the same here-and-there interpretations as one formula, among candidates that stand on a side. Candidates whose
 // atoms can be given places of their own, at most 8 of them, are judged together: the formulas under them are listed once and judged in
-// 64 pairs at a time.
+// 256 pairs at a time.
+mod blocks;
 mod places;
 mod survivors;
 mod truths;
 mod under;
 
-ghost use Prim.Native.Nat.{ℕ, _≤_, _<_};
+ghost use Prim.Native.Nat.{ℕ, _^_, _≤_, _<_};
 ghost use mathlib.Core.Logic.{_↔_};
 ghost use mathlib.Core.Path.{_≡_};
 ghost use lib.Bits.{bitOr};
 ghost use lib.ListN.{length, getD};
 ghost use Rattle.atomset.specs.AtomSet.{Member};
-ghost use Rattle.alike.specs.Survivors.{mostPlaces, Remain};
+ghost use Rattle.format.specs.Tables.{mostFormulas};
+ghost use Rattle.alike.specs.Under.{Room};
+ghost use Rattle.alike.specs.Survivors.{mostPlaces, Remain, AnyAlike};
 ghost use Rattle.alike.specs.Places.{Seated};
-ghost use Rattle.alike.specs.Alike.{atomsAt, Few, CandidatesMarked, Bounded, Room, SomeAlike, SomeEqual, Grouped, GroupJudged, CandidatesNumbered};
+ghost use Rattle.alike.specs.Alike.{atomsAt, Few, CandidatesMarked, Bounded, SomeAlike, SomeEqual, Grouped, GroupJudged, CandidatesNumbered};
 use crate::places::NO_PLACE;
 use crate::places::outer_places;
 use crate::places::seat;
 use crate::places::seat_too;
-use crate::survivors::alike_all;
+use crate::survivors::any_alike;
 use crate::survivors::formula_at;
 use crate::under::list_under;
 use crate::under::mark;
@@ -39,6 +42,13 @@ use tables::records::wide;
 
 // The most atoms that two formulas of `swap` have together.
 const MOST_SWAPPED: usize = 8;
+
+// The words for the truths of a short list, and of any.
+const FEW: usize = 32;
+
+const FEW_WORDS: usize = 384;
+
+const MOST_WORDS: usize = 12288;
 
 // Candidates judged together, and whether one of them is equal to the formula.
 struct Group {
@@ -107,7 +117,63 @@ fn end_of(own: usize, side: &[u16]) -> usize
     own + 1
 }
 
-// Whether one of the candidates is equal to the formula, where the atoms of both have places of their own; with room for the work.
+// Whether one of the candidates holds in the same pairs of places as the formula, where the list is short.
+fn alike_few(
+    formulas: &[u16],
+    list: &[u16],
+    slots: &[u16],
+    places: &[u64],
+    outer: u64,
+    own: usize,
+    side: &[u16],
+    candidates: u64,
+) -> bool
+    requires { ⌜ (outer < 2 ^ mostPlaces) × (length (now list) ≤ 32) ⌝ }
+    ensures { λ r. ⌜ AnyAlike (now (formulas .entry)) (now (list .entry)) (now (slots .entry)) (now (places .entry)) outer own (now (side .entry)) candidates r ⌝ }
+{
+    let mut table = [0u64; FEW_WORDS];
+    any_alike(
+        formulas,
+        list,
+        slots,
+        places,
+        outer,
+        own,
+        side,
+        candidates,
+        &mut table,
+    )
+}
+
+// The same, whatever is listed.
+fn alike_many(
+    formulas: &[u16],
+    list: &[u16],
+    slots: &[u16],
+    places: &[u64],
+    outer: u64,
+    own: usize,
+    side: &[u16],
+    candidates: u64,
+) -> bool
+    requires { ⌜ (outer < 2 ^ mostPlaces) × (length (now list) ≤ mostFormulas) ⌝ }
+    ensures { λ r. ⌜ AnyAlike (now (formulas .entry)) (now (list .entry)) (now (slots .entry)) (now (places .entry)) outer own (now (side .entry)) candidates r ⌝ }
+{
+    let mut table = [0u64; MOST_WORDS];
+    any_alike(
+        formulas,
+        list,
+        slots,
+        places,
+        outer,
+        own,
+        side,
+        candidates,
+        &mut table,
+    )
+}
+
+// Whether one of the candidates is equal to the formula, where the atoms of both have places of their own; with room for the list.
 fn alike_with(
     formulas: &[u16],
     own: usize,
@@ -117,28 +183,38 @@ fn alike_with(
     candidates: u64,
     marks: &mut [u8],
     list: &mut [u16],
-    heres: &mut [u64],
-    theres: &mut [u64],
+    slots: &mut [u16],
 ) -> bool
-    requires { ⌜ (width ≤ mostPlaces) × Room (now marks) (now list) (now heres) (now theres) ⌝ }
+    requires { ⌜ (width ≤ mostPlaces) × Room (now marks) (now list) (now slots) ⌝ }
     ensures { λ r. ⌜ SomeAlike (now (formulas .entry)) own (now (places .entry)) width (now (side .entry)) candidates r ⌝ }
 {
     let end = end_of(own, side);
     mark(marks, own, MOST_FORMULAS);
     mark_candidates(side, candidates, marks);
-    let n = list_under(formulas, end, marks, list);
-    let kept = alike_all(
+    let n = list_under(formulas, end, marks, list, slots);
+    let outer = outer_places(width);
+    if n <= FEW {
+        return alike_few(
+            formulas,
+            &list[..n],
+            slots,
+            places,
+            outer,
+            own,
+            side,
+            candidates,
+        );
+    }
+    alike_many(
         formulas,
         &list[..n],
+        slots,
         places,
-        outer_places(width),
+        outer,
         own,
         side,
         candidates,
-        heres,
-        theres,
-    );
-    !is_empty(kept)
+    )
 }
 
 // The same, with room for itself.
@@ -155,8 +231,7 @@ fn some_alike(
 {
     let mut marks = [0u8; MOST_FORMULAS];
     let mut list = [0u16; MOST_FORMULAS];
-    let mut heres = [0u64; MOST_FORMULAS];
-    let mut theres = [0u64; MOST_FORMULAS];
+    let mut slots = [0u16; MOST_FORMULAS];
     alike_with(
         formulas,
         own,
@@ -166,8 +241,7 @@ fn some_alike(
         candidates,
         &mut marks,
         &mut list,
-        &mut heres,
-        &mut theres,
+        &mut slots,
     )
 }
 

@@ -120,10 +120,10 @@ pub(crate) fn seat_too(set: u64, width: usize, places: &mut [u64]) -> bool
     seats_of(set, width, places).apart
 }
 
-// The places from 3 on that are below `width`.
+// The places from 5 on that are below `width`.
 pub(crate) fn outer_places(width: usize) -> u64
     requires { ⌜ width ≤ mostPlaces ⌝ }
     ensures { λ r. ⌜ OuterPlaces width r ⌝ }
 {
-    difference(below(width), 7)
+    difference(below(width), 31)
 }

@@ -1,13 +1,25 @@
-// The truth of formulas in 64 pairs at once, one digit of a word for each pair. Atoms have places 0 to 7, and a pair says of each place
-// whether its atoms are in the greater set (there) and in the smaller one (here). Places 0, 1 and 2 take the 64 pairs through all that
-// they can be; the places from 3 on are the same in all 64, as two sets of places, h inside t.
-ghost use mathlib.Core.Path.{_≡_};
+// The truth of formulas in 256 pairs at once. Atoms have places 0 to 7, and a pair says of each place whether its atoms are in the greater
+// set (there) and in the smaller one (here). Places 0 to 4 go through all that they can be: digit s of a pair's number in base three is 0
+// if place s is in neither set, 1 if it is in the greater alone, and 2 if it is in both. The places from 5 on are the same in all 256
+// pairs, as two sets of places, h inside t; two such h, the second named g, are judged at a time. The truths of listed formulas are in a
+// table, each at the slot of its formula: its place on the list.
 ghost use Prim.Native.Nat.{ℕ, _<_};
+ghost use mathlib.Core.Path.{_≡_};
 ghost use Rattle.atomset.specs.AtomSet.{has};
-ghost use Rattle.alike.specs.Truths.{hereAt, thereAt, JudgedBits, JudgedAll};
+ghost use Rattle.alike.specs.Blocks.{pairsAtOnce, digit, Roomy};
+ghost use Rattle.alike.specs.Truths.{slotOf, PlaceTruth, JudgedNext, JudgedAll};
+use crate::blocks::Block;
+use crate::blocks::TRUTH_WORDS;
+use crate::blocks::Truth;
+use crate::blocks::all_of_one;
+use crate::blocks::conjunction;
+use crate::blocks::disjunction;
+use crate::blocks::implication;
+use crate::blocks::negation;
+use crate::blocks::put_truth;
+use crate::blocks::truth_in;
 use atomset::contains;
 use known::index::note;
-use known::index::put_note;
 use tables::records::AND;
 use tables::records::ATOM;
 use tables::records::IMP;
@@ -17,111 +29,236 @@ use tables::records::OR;
 use tables::records::node;
 use tables::records::wide;
 
-// The truth of a formula in 64 pairs: in each pair (h,t) itself, and in (t,t).
-struct Truth {
-    here: u64,
-    there: u64,
-}
-
-// A word of nothing but ones if the set has the place, and else of zeros.
-fn spread(set: u64, place: u64) -> u64
-    ensures { λ r. ⌜ ((j : ℕ) → j < 64 → has r j ≡ has set place) ⌝ }
+// A block of nothing but ones if the set has the place, and else of zeros.
+fn spread(set: u64, place: u64) -> Block
+    ensures { λ r. ⌜ ((n : ℕ) → n < pairsAtOnce → digit r n ≡ has set place) ⌝ }
 {
     if contains(set, place as usize) {
-        return 0xFFFFFFFFFFFFFFFF;
+        return all_of_one(0xFFFFFFFFFFFFFFFF);
     }
-    0
+    all_of_one(0)
+}
+
+// The truth with one block for both smaller sets.
+fn at_all(here: Block, there: Block) -> Truth
+    ensures { λ r. ⌜ (r .here ≡ here) × (r .also ≡ here) × (r .there ≡ there) ⌝ }
+{
+    Truth {
+        here,
+        also: here,
+        there,
+    }
 }
 
 // The truth of the atoms at a place.
-fn truth_of_place(place: u64, h: u64, t: u64) -> Truth
-    ensures { λ r. ⌜ ((j : ℕ) → j < 64 → (has (r .here) j ≡ hereAt h place j) × (has (r .there) j ≡ thereAt t place j)) ⌝ }
+fn truth_of_place(place: u64, h: u64, g: u64, t: u64) -> Truth
+    ensures { λ r. ⌜ PlaceTruth place h g t r ⌝ }
 {
     if place == 0 {
-        return Truth {
-            here: 0x8888888888888888,
-            there: 0xCCCCCCCCCCCCCCCC,
-        };
+        return at_all(
+            Block {
+                w0: 0x4924924924924924,
+                w1: 0x2492492492492492,
+                w2: 0x9249249249249249,
+                w3: 0x4924924924924924,
+            },
+            Block {
+                w0: 0x6DB6DB6DB6DB6DB6,
+                w1: 0xB6DB6DB6DB6DB6DB,
+                w2: 0xDB6DB6DB6DB6DB6D,
+                w3: 0x6DB6DB6DB6DB6DB6,
+            },
+        );
     }
     if place == 1 {
-        return Truth {
-            here: 0xF000F000F000F000,
-            there: 0xFF00FF00FF00FF00,
-        };
+        return at_all(
+            Block {
+                w0: 0x70381C0E070381C0,
+                w1: 0x381C0E070381C0E0,
+                w2: 0x1C0E070381C0E070,
+                w3: 0x0E070381C0E07038,
+            },
+            Block {
+                w0: 0x7E3F1F8FC7E3F1F8,
+                w1: 0x3F1F8FC7E3F1F8FC,
+                w2: 0x1F8FC7E3F1F8FC7E,
+                w3: 0x8FC7E3F1F8FC7E3F,
+            },
+        );
     }
     if place == 2 {
-        return Truth {
-            here: 0xFFFF000000000000,
-            there: 0xFFFFFFFF00000000,
-        };
+        return at_all(
+            Block {
+                w0: 0x003FE00007FC0000,
+                w1: 0xC0000FF80001FF00,
+                w2: 0x1FF00003FE00007F,
+                w3: 0x0007FC0000FF8000,
+            },
+            Block {
+                w0: 0x803FFFF007FFFE00,
+                w1: 0xFFE00FFFFC01FFFF,
+                w2: 0x1FFFF803FFFF007F,
+                w3: 0xF007FFFE00FFFFC0,
+            },
+        );
+    }
+    if place == 3 {
+        return at_all(
+            Block {
+                w0: 0xFFC0000000000000,
+                w1: 0x000000000001FFFF,
+                w2: 0x00000003FFFFFF80,
+                w3: 0x0007FFFFFF000000,
+            },
+            Block {
+                w0: 0xFFFFFFFFF8000000,
+                w1: 0xFFFFF0000001FFFF,
+                w2: 0xE0000003FFFFFFFF,
+                w3: 0x0007FFFFFFFFFFFF,
+            },
+        );
+    }
+    if place == 4 {
+        return at_all(
+            Block {
+                w0: 0x0000000000000000,
+                w1: 0x0000000000000000,
+                w2: 0xFFFFFFFC00000000,
+                w3: 0x0007FFFFFFFFFFFF,
+            },
+            Block {
+                w0: 0x0000000000000000,
+                w1: 0xFFFFFFFFFFFE0000,
+                w2: 0xFFFFFFFFFFFFFFFF,
+                w3: 0x0007FFFFFFFFFFFF,
+            },
+        );
     }
     Truth {
         here: spread(h, place),
+        also: spread(g, place),
         there: spread(t, place),
     }
 }
 
-// The truth of the formula of a record, by that of its parts.
-fn judged(key: NodeRecord, places: &[u64], h: u64, t: u64, heres: &[u64], theres: &[u64]) -> Truth
-    ensures { λ r. ⌜ JudgedBits key (now (places .entry)) h t (now (heres .entry)) (now (theres .entry)) (r .here) (r .there) ⌝ }
+// The slot of a formula.
+pub(crate) fn slot_of(slots: &[u16], formula: usize) -> u16
+    ensures { λ r. ⌜ r ≡ slotOf (now (slots .entry)) formula ⌝ }
 {
-    let operator = key.word;
-    if operator == ATOM {
-        return truth_of_place(note(places, wide(key.first)), h, t);
+    if formula >= slots.len() {
+        return 0;
     }
-    let first = wide(key.first);
-    let there_first = note(theres, first);
-    if operator == NOT {
-        return Truth {
-            here: !there_first,
-            there: !there_first,
-        };
-    }
-    let second = wide(key.second);
-    let there_second = note(theres, second);
-    let here_first = note(heres, first);
-    let here_second = note(heres, second);
-    if operator == AND {
-        return Truth {
-            here: here_first & here_second,
-            there: there_first & there_second,
-        };
-    }
-    if operator == OR {
-        return Truth {
-            here: here_first | here_second,
-            there: there_first | there_second,
-        };
-    }
-    if operator == IMP {
-        let there = !there_first | there_second;
-        return Truth {
-            here: there & (!here_first | here_second),
-            there,
-        };
-    }
-    Truth { here: 0, there: 0 }
+    slots[formula]
 }
 
-// Notes the truths of the formulas of a list, the last one first.
+// The same as far as a table has rooms, else 0.
+fn slot_within(slots: &[u16], formula: usize, rooms: usize) -> usize
+    requires { ⌜ 0 < rooms ⌝ }
+    ensures { λ r. ⌜ (r < rooms) × (slotOf (now (slots .entry)) formula < rooms → r ≡ slotOf (now (slots .entry)) formula) ⌝ }
+{
+    let slot = wide(slot_of(slots, formula));
+    if slot >= rooms {
+        return 0;
+    }
+    slot
+}
+
+// Puts the truth of the formula of a record at slot k, by that of its parts. Each connective is read, judged and written by itself: with
+// one writing for all, the compiler takes one word at a time.
+fn judge(
+    key: NodeRecord,
+    slots: &[u16],
+    places: &[u64],
+    h: u64,
+    g: u64,
+    t: u64,
+    k: usize,
+    table: &mut [u64],
+)
+    requires { ⌜ Roomy (now table) k ⌝ }
+    ensures { λ _. ⌜ JudgedNext key (now (slots .entry)) (now (places .entry)) h g t k (now (table .entry)) (now (table .exit)) ⌝ }
+{
+    let operator = key.word;
+    let rooms = table.len() / TRUTH_WORDS;
+    let x = slot_within(slots, wide(key.first), rooms);
+    let y = slot_within(slots, wide(key.second), rooms);
+    if operator == AND {
+        put_truth(
+            table,
+            k,
+            conjunction(truth_in(table, x), truth_in(table, y)),
+        );
+        return;
+    }
+    if operator == OR {
+        put_truth(
+            table,
+            k,
+            disjunction(truth_in(table, x), truth_in(table, y)),
+        );
+        return;
+    }
+    if operator == IMP {
+        put_truth(
+            table,
+            k,
+            implication(truth_in(table, x), truth_in(table, y)),
+        );
+        return;
+    }
+    if operator == NOT {
+        put_truth(table, k, negation(truth_in(table, x)));
+        return;
+    }
+    if operator == ATOM {
+        put_truth(
+            table,
+            k,
+            truth_of_place(note(places, wide(key.first)), h, g, t),
+        );
+        return;
+    }
+    let none = all_of_one(0);
+    put_truth(
+        table,
+        k,
+        Truth {
+            here: none,
+            also: none,
+            there: none,
+        },
+    );
+}
+
+// Puts the truths of the formulas of a list at their slots, the last one first.
 pub(crate) fn judge_listed(
     formulas: &[u16],
     list: &[u16],
+    slots: &[u16],
     places: &[u64],
     h: u64,
+    g: u64,
     t: u64,
-    heres: &mut [u64],
-    theres: &mut [u64],
+    table: &mut [u64],
 )
-    ensures { λ _. ⌜ JudgedAll (now (formulas .entry)) (now (list .entry)) (now (places .entry)) h t (now (heres .entry)) (now (theres .entry))
-        (now (heres .exit)) (now (theres .exit)) ⌝ }
+    ensures { λ _. ⌜ JudgedAll (now (formulas .entry)) (now (list .entry)) (now (slots .entry)) (now (places .entry)) h g t (now (table .entry))
+        (now (table .exit)) ⌝ }
 {
+    if list.len() > table.len() / TRUTH_WORDS {
+        return;
+    }
     let mut k = list.len();
     while 0 < k {
         k -= 1;
-        let i = wide(list[k]);
-        let truth = judged(node(formulas, i), places, h, t, heres, theres);
-        put_note(heres, i, truth.here);
-        put_note(theres, i, truth.there);
+        judge(
+            node(formulas, wide(list[k])),
+            slots,
+            places,
+            h,
+            g,
+            t,
+            k,
+            table,
+        );
     }
 }

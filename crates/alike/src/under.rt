@@ -1,10 +1,9 @@
 // The formulas under some that are marked: these and all that they are made of, by their numbers from the largest down. A formula's
-// parts have smaller numbers, so that one pass down the table finds them, and the list backwards has each formula after its parts.
-ghost use mathlib.Core.Path.{_≡_};
+// parts have smaller numbers, so that one pass down the table finds them, and the list backwards has each formula after its parts. The
+// slot of a listed formula is its place on the list.
 ghost use Prim.Native.Nat.{_≤_};
-ghost use lib.ListN.{length};
 ghost use Rattle.format.specs.Tables.{mostFormulas};
-ghost use Rattle.alike.specs.Under.{MarkedBefore, PartsMarked, Listed};
+ghost use Rattle.alike.specs.Under.{MarkedBefore, PartsMarked, Room, Listed};
 use tables::records::AND;
 use tables::records::NOT;
 use tables::records::narrow_place;
@@ -39,10 +38,16 @@ fn mark_parts(formulas: &[u16], formula: usize, marks: &mut [u8])
     mark(marks, wide(key.second), formula);
 }
 
-// Lists the formulas under those that are marked, all of which are before `end`, and answers how many they are.
-pub(crate) fn list_under(formulas: &[u16], end: usize, marks: &mut [u8], list: &mut [u16]) -> usize
-    requires { ⌜ (end ≤ mostFormulas) × (length (now marks) ≡ mostFormulas) × (length (now list) ≡ mostFormulas) ⌝ }
-    ensures { λ r. ⌜ Listed (now (formulas .entry)) end (now (marks .entry)) (now (list .exit)) r ⌝ }
+// Lists the formulas under those that are marked, all of which are before `end`, notes their slots, and answers how many they are.
+pub(crate) fn list_under(
+    formulas: &[u16],
+    end: usize,
+    marks: &mut [u8],
+    list: &mut [u16],
+    slots: &mut [u16],
+) -> usize
+    requires { ⌜ (end ≤ mostFormulas) × Room (now marks) (now list) (now slots) ⌝ }
+    ensures { λ r. ⌜ Listed (now (formulas .entry)) end (now (marks .entry)) (now (list .exit)) (now (slots .exit)) r ⌝ }
 {
     let mut count = 0;
     let mut i = end;
@@ -51,6 +56,7 @@ pub(crate) fn list_under(formulas: &[u16], end: usize, marks: &mut [u8], list: &
         if marks[i] == 1 {
             mark_parts(formulas, i, marks);
             list[count] = narrow_place(i);
+            slots[i] = narrow_place(count);
             count += 1;
         }
     }

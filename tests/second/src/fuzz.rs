@@ -331,8 +331,11 @@ mod tests {
         assert!(report.claims_confirmed > 100 && report.contradictions_shown > 50, "{report}");
         let common = |(&code, counts): (&usize, &RowCounts)| {
             let RowCounts { passed, wrong_premises, wrong_step, too_many_atoms } = *counts;
-            let is_swap = ELK.rules[code].name == "swap";
-            passed > 5 && wrong_premises > 0 && wrong_step > 0 && is_swap == (too_many_atoms > 5)
+            let wide_in_swap_alone = match ELK.rules[code].name {
+                "swap" => too_many_atoms > 5,
+                _ => too_many_atoms == 0,
+            };
+            passed > 5 && wrong_premises > 0 && wrong_step > 0 && wide_in_swap_alone
         };
         assert!(report.rules.len() == ELK.rules.len() && report.rules.iter().all(common), "{report}");
     }

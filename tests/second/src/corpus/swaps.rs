@@ -1,5 +1,6 @@
 //! Rows of `swap`: formulas that hold in the same pairs and some that nearly do, sets that
-//! may hold A, B or both, several B to choose from, and 8 atoms and more.
+//! may hold A, B or both, several B to choose from, formulas over 4 to 8 atoms that one pair
+//! alone tells apart, and 8 atoms and more.
 
 use super::limits::{atom_formulas, atoms};
 use super::{Case, raw, rows, tabbed};
@@ -18,6 +19,8 @@ pub fn cases() -> Vec<Case> {
     for text in [MEANING, SIDES, CHOICE, ATOMS, PLACES] {
         cases.extend(rows::group("rule_swap", &written_out(text)));
     }
+    cases.extend(rows::group("rule_swap", &single_pairs()));
+    cases.extend(rows::group("rule_swap", &clashing_atoms()));
     cases.extend(claims());
     cases.extend(atoms_by_number());
     cases.extend(shared_parts());
@@ -491,6 +494,102 @@ refused 10 no_principal
     same p - p => p
     swap - 0 p => p
 ";
+
+/// Formulas that tell one pair (H,T) from others. An atom has a value: 0 out of T, 1 in T alone,
+/// 2 in H.
+struct OnePair {
+    /// These all hold in the pair, and elsewhere only with the same T and more in H.
+    literals: Vec<String>,
+    /// Their conjunction.
+    whole: String,
+    /// H has more, if T is the same.
+    more: String,
+}
+
+impl OnePair {
+    fn over(atoms: impl IntoIterator<Item = char>, values: &[usize]) -> Self {
+        let pair = Vec::from_iter(atoms.into_iter().zip(values.iter().copied()));
+        let literal = |&(atom, value): &(char, usize)| format!("{}{atom}", ["~", "~~", ""][value]);
+        let literals = Vec::from_iter(pair.iter().map(literal));
+        let conjoined = |inner, literal| format!("({literal}&{inner})");
+        let whole = literals.iter().cloned().reduce(conjoined).expect("an atom");
+        let in_t_alone = pair.iter().filter(|(_, value)| *value == 1).map(|(atom, _)| atom.to_string());
+        let more = in_t_alone.reduce(|inner, atom| format!("({atom}|{inner})")).unwrap_or("#".into());
+        OnePair { literals, whole, more }
+    }
+
+    /// What fails in the pair alone, if T is more than H.
+    fn elsewhere(&self) -> String {
+        format!("({}->{})", self.whole, self.more)
+    }
+}
+
+/// 4 to 8 atoms together: formulas that differ in a single pair, in several places among all
+/// pairs, and equal ones.
+fn single_pairs() -> String {
+    let swapped = |heading: String, b: String, a: String| {
+        format!(
+            "{heading}
+                same {b} - {b} => {b}
+                swap {a} 0 {a} => {b}
+            "
+        )
+    };
+    let differing = |values: &[usize]| {
+        let OnePair { whole, more, .. } = OnePair::over('d'.., values);
+        let name: String = values.iter().map(usize::to_string).collect();
+        let a = format!("{whole}&{more}");
+        swapped(format!("refused 11 differing_in_{name}_alone"), whole, a)
+    };
+    let equal = |count: usize| {
+        let pair = OnePair::over('d'.., &Vec::from_iter((0..count).map(|k| k % 3)));
+        let implied = |inner, literal: &String| format!("({literal}->{inner})");
+        let one_by_one = pair.literals.iter().fold(pair.more.clone(), implied);
+        swapped(format!("accepted equal_over_{count}_atoms"), one_by_one, pair.elsewhere())
+    };
+    let mut text = String::new();
+    for count in 4..=8 {
+        text += &equal(count);
+        for [first, inner, last] in [[0, 0, 0], [0, 0, 1], [0, 2, 2], [1, 1, 1], [2, 2, 1], [2, 2, 2]] {
+            text += &differing(&[&[first][..], &vec![inner; count - 2], &[last]].concat());
+        }
+    }
+    for last in [[0, 1, 2], [1, 2, 0], [2, 0, 1]] {
+        text += &differing(&[&[2; 5][..], &last].concat());
+    }
+    text
+}
+
+/// Truth for one of four B, with eight of sixteen atoms each: if the first two share eight
+/// places, in rising order, the others have two atoms at one place. Those that do not fit
+/// fail in one pair alone.
+fn clashing_atoms() -> String {
+    let case = |heading: &str, fitting: Option<usize>, end: &str| {
+        let candidate = |(k, atoms): (usize, &str)| {
+            let pair = OnePair::over(atoms.chars(), &[2, 2, 2, 2, 2, 0, 1, 2]);
+            let elsewhere = pair.elsewhere();
+            if fitting == Some(k) { format!("{elsewhere}|{}", pair.whole) } else { elsewhere }
+        };
+        let sets = ["defghijk", "lmnopqrs", "defglmno", "hijkpqrs"];
+        let candidates = Vec::from_iter(sets.into_iter().enumerate().map(candidate));
+        let (first, all) = (&candidates[0], candidates.join(","));
+        format!(
+            "{heading}
+                also {all}
+                same {first} - {all} => {first}
+                swap ~# 0 {all},~# => {first}
+                {end}
+            "
+        )
+    };
+    let claimed = "same c - c => c";
+    [
+        case("accepted second_of_four_with_clashing_atoms_fits", Some(1), claimed),
+        case("accepted last_of_four_with_clashing_atoms_fits", Some(3), claimed),
+        case("refused 11 none_of_four_with_clashing_atoms_fits", None, ""),
+    ]
+    .concat()
+}
 
 /// What a row of `swap` is claimed to say, and what another row after it is.
 fn claims() -> Vec<Case> {

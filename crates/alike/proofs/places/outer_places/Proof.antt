@@ -18,7 +18,7 @@ returns : tie.Need-returns
 returns c =
     let start = c .before .before in
     outer-ones (start .args .width) _ (start .pre) (search needs) (λ i.
-    c .difference .ensures i ∙ ap (λ (w : ℕ). has w i && not (has 7 i)) (c .before .below .ensures))
+    c .difference .ensures i ∙ ap (λ (w : ℕ). has w i && not (has 31 i)) (c .before .below .ensures))
 
 pub outer-places-spec : {M : Type 1} → statement M
 outer-places-spec = tie.close (tie.spec below-requires difference-requires returns)

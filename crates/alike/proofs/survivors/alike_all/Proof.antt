@@ -13,11 +13,11 @@ use Rattle.alike.proofs.survivors.alike_all.Statement.{statement}
 use Rattle.alike.proofs.survivors.alike_all.Tie as tie
 
 abbrev Inv-loop : tie.InvT-loop
-Inv-loop formulas list places outer own side alive heres₀ theres₀ last kept₀ m₀ heres theres kept m =
-    (last ≡ 2 ^ length (members outer)) × (m ≤ last) × AllSoFar formulas list places outer own side alive heres₀ theres₀ heres theres kept m
+Inv-loop formulas list slots places outer own side alive table₀ last kept₀ m₀ table kept m =
+    (last ≡ 2 ^ length (members outer)) × (m ≤ last) × AllSoFar formulas list slots places outer own side alive table₀ table kept m
 
 abbrev μ-loop : tie.MeasureT-loop
-μ-loop formulas list places outer own side alive heres₀ theres₀ last kept₀ m₀ heres theres kept m = last - m
+μ-loop formulas list slots places outer own side alive table₀ last kept₀ m₀ table kept m = last - m
 
 count-requires : tie.Need-count-requires Inv-loop μ-loop
 count-requires c κs = search needs
@@ -33,25 +33,22 @@ loop-holds c =
     let args = start .args in (
       parts-counted (args .outer) _ (start .pre) (search needs) (c .count .ensures),
       search needs,
-      all-starts (args .formulas .now) (args .list .now) (args .places .now) (args .outer) (args .own) (args .side .now) (args .alive) (args .heres .now)
-          (args .theres .now) (search needs),
+      all-starts (args .formulas .now) (args .list .now) (args .slots .now) (args .places .now) (args .outer) (args .own) (args .side .now) (args .alive)
+          (args .table .now) (search needs),
     )
 
 is-empty-requires : tie.Need-is-empty-requires Inv-loop μ-loop
 is-empty-requires c κs = search needs
 
 same-length : tie.Need-same-length Inv-loop μ-loop
-same-length c = c .before .before .before .loop .inv .2 .here-long
-
-same-length-2 : tie.Need-same-length-2 Inv-loop μ-loop
-same-length-2 c = c .before .before .before .loop .inv .2 .there-long
+same-length c = c .before .before .before .loop .inv .2 .long
 
 returns : tie.Need-returns Inv-loop μ-loop
 returns c =
     let turn = c .before .before .before in
     let args = turn .before .before .before .before .before .before .before .before .args in
-    all-none (args .formulas .now) (args .list .now) (args .places .now) (args .outer) (args .own) (args .side .now) (args .alive) (args .heres .now)
-    (args .theres .now) (turn .loop .inv .2) (walk-ends _ (sym (c .before .is-empty .ensures) ∙ c .if1 .taken))
+    all-none (args .formulas .now) (args .list .now) (args .slots .now) (args .places .now) (args .outer) (args .own) (args .side .now) (args .alive)
+    (args .table .now) (turn .loop .inv .2) (walk-ends _ (sym (c .before .is-empty .ensures) ∙ c .if1 .taken))
     (omega (arith, turn .loop .inv .0, turn .loop .inv .1))
 
 part-of-requires : tie.Need-part-of-requires Inv-loop μ-loop
@@ -59,7 +56,7 @@ part-of-requires c κs = search needs
 
 alike-below-requires : tie.Need-alike-below-requires Inv-loop μ-loop
 alike-below-requires c κs =
-    let picked = c .before .before in
+    let picked = c .before in
     let start = picked .before .before .before .before .before .before .before .before .before .before .before .before in
     subst (λ (t : ℕ). t < 2 ^ mostPlaces) (sym (picked .part-of .ensures)) (part-small mostPlaces (start .args .outer) _ (start .pre) (search needs))
 
@@ -71,28 +68,25 @@ loop-less c = search needs
 
 loop-again : tie.Need-loop-again Inv-loop μ-loop
 loop-again c =
-    let below = c .before .before .before .before in
-    let picked = below .before .before .before in
+    let below = c .before .before in
+    let picked = below .before .before in
     let turn = picked .before .before .before .before in
     let args = turn .before .before .before .before .before .before .before .before .args in (
       turn .loop .inv .0,
       search needs,
-      all-next (args .formulas .now) (args .list .now) (args .places .now) (args .outer) (args .own) (args .side .now) (args .alive) (args .heres .now)
-          (args .theres .now) (turn .loop .inv .2) _ (picked .part-of .ensures) _ (search needs) (below .alike-below .ensures),
+      all-next (args .formulas .now) (args .list .now) (args .slots .now) (args .places .now) (args .outer) (args .own) (args .side .now) (args .alive)
+          (args .table .now) (turn .loop .inv .2) _ (picked .part-of .ensures) _ (search needs) (below .alike-below .ensures),
     )
 
-same-length-3 : tie.Need-same-length-3 Inv-loop μ-loop
-same-length-3 c = c .before .loop .inv .2 .here-long
-
-same-length-4 : tie.Need-same-length-4 Inv-loop μ-loop
-same-length-4 c = c .before .loop .inv .2 .there-long
+same-length-2 : tie.Need-same-length-2 Inv-loop μ-loop
+same-length-2 c = c .before .loop .inv .2 .long
 
 returns-2 : tie.Need-returns-2 Inv-loop μ-loop
 returns-2 c =
     let turn = c .before in
     let args = turn .before .before .before .before .before .before .before .before .args in
-    all-whole (args .formulas .now) (args .list .now) (args .places .now) (args .outer) (args .own) (args .side .now) (args .alive) (args .heres .now)
-    (args .theres .now) (turn .loop .inv .2) (omega (arith, turn .loop .inv .0, turn .loop .inv .1, c .loop-test .left))
+    all-whole (args .formulas .now) (args .list .now) (args .slots .now) (args .places .now) (args .outer) (args .own) (args .side .now) (args .alive)
+    (args .table .now) (turn .loop .inv .2) (omega (arith, turn .loop .inv .0, turn .loop .inv .1, c .loop-test .left))
 
 pub alike-all-spec : {M : Type 1} → statement M
 alike-all-spec =
@@ -105,13 +99,11 @@ alike-all-spec =
     loop-holds
     is-empty-requires
     same-length
-    same-length-2
     returns
     part-of-requires
     alike-below-requires
     add-m
     loop-less
     loop-again
-    same-length-3
-    same-length-4
+    same-length-2
     returns-2)

@@ -1,19 +1,34 @@
 -- `alike::truths::judge_listed` meets its contract. The invariant of its loop: the formulas from k on are judged. Assumes nothing.
-use mathlib.Core.Path.{refl}
+use Prim.Native.Nat.{ℕ, _*_, _≤_}
+use native.Mathlib.Omega.{arith}
+use mathlib.Core.Path.{refl, ap, _∙_}
+use lib.ListN.{length}
 use borrow.Author.Needs.{needs}
-use Rattle.alike.proofs.TruthBits.{JudgedFrom, judged-none, judged-next, judged-whole}
+use Rattle.tables.specs.Records.{nodeAt, recordFrom}
+use Rattle.alike.specs.Blocks.{truthWords}
+use Rattle.alike.proofs.TruthBits.{JudgedFrom, judged-none, judged-next, judged-whole, judged-not}
 use Rattle.alike.proofs.truths.judge_listed.Statement.{statement}
 use Rattle.alike.proofs.truths.judge_listed.Tie as tie
 
 abbrev Inv-loop : tie.InvT-loop
-Inv-loop formulas list places h t heres₀ theres₀ k₀ heres theres k = JudgedFrom formulas list places h t heres₀ theres₀ heres theres k
+Inv-loop formulas list slots places h g t table₀ k₀ table k =
+    (truthWords * length list ≤ length table₀) × JudgedFrom formulas list slots places h g t table₀ table k
 
 abbrev μ-loop : tie.MeasureT-loop
-μ-loop formulas list places h t heres₀ theres₀ k₀ heres theres k = k
+μ-loop formulas list slots places h g t table₀ k₀ table k = k
+
+returns : tie.Need-returns Inv-loop μ-loop
+returns c =
+    let args = c .before .before .before .before .before .before .args in
+    judged-not (args .formulas .now) (args .list .now) (args .slots .now) (args .places .now) (args .h) (args .g) (args .t) (args .table .now)
+    (omega (arith, c .if1 .taken))
 
 loop-holds : tie.Need-loop-holds Inv-loop μ-loop
-loop-holds c = let args = c .before .before .before .before .before .args in judged-none (args .formulas .now) (args .list .now) (args .places .now)
-    (args .h) (args .t) (args .heres .now) (args .theres .now)
+loop-holds c =
+    let args = c .before .before .before .before .before .before .args in (
+      omega (arith, c .if1 .left),
+      judged-none (args .formulas .now) (args .list .now) (args .slots .now) (args .places .now) (args .h) (args .g) (args .t) (args .table .now),
+    )
 
 sub-k : tie.Need-sub-k Inv-loop μ-loop
 sub-k c = search needs
@@ -30,46 +45,36 @@ wide-requires c κs = search needs
 node-requires : tie.Need-node-requires Inv-loop μ-loop
 node-requires c κs = search needs
 
-judged-requires : tie.Need-judged-requires Inv-loop μ-loop
-judged-requires c κs = search needs
-
-put-note-requires : tie.Need-put-note-requires Inv-loop μ-loop
-put-note-requires c κs = search needs
-
-put-note-requires-2 : tie.Need-put-note-requires-2 Inv-loop μ-loop
-put-note-requires-2 c κs = search needs
+judge-requires : tie.Need-judge-requires Inv-loop μ-loop
+judge-requires c κs =
+    let turn = c .before .before .before .before .before in
+    omega (arith, turn .loop .inv .0, turn .loop .inv .1 .within, turn .loop .inv .1 .long, c .before .before .before .before .loop-test .taken)
 
 loop-less : tie.Need-loop-less Inv-loop μ-loop
 loop-less c = search needs
 
 loop-again : tie.Need-loop-again Inv-loop μ-loop
 loop-again c =
-    let second = c .before .before in
-    let first = second .before .before .before .before in
-    let judged = first .before .before in
-    let own = judged .before .before .before in
-    let index = own .before in
-    let test = index .before .before in
+    let judged = c .before .before in
+    let own = judged .before .before in
+    let test = own .before .before .before in
     let turn = test .before in
-    let args = turn .before .before .before .before .before .before .args in
-    let truth = judged .judged in
-    judged-next (args .formulas .now) (args .list .now) (args .places .now) (args .h) (args .t) (args .heres .now) (args .theres .now)
-    (turn .loop .heres) (turn .loop .theres) (turn .loop .inv) (test .loop-test .taken) refl _ (index .wide .ensures) _ (own .node .ensures) _ _
-    (truth .ensures)
-    (first .put-note .ensures) (second .put-note2 .ensures)
+    let args = turn .before .before .before .before .before .before .before .args in (
+      turn .loop .inv .0,
+      judged-next (args .formulas .now) (args .list .now) (args .slots .now) (args .places .now) (args .h) (args .g) (args .t) (args .table .now)
+          (turn .loop .inv .1) (test .loop-test .taken) refl _
+          (own .node .ensures ∙ ap (λ (i : ℕ). recordFrom (nodeAt (args .formulas .now) i)) (own .before .wide .ensures)) (judged .judge .ensures),
+    )
 
 same-length : tie.Need-same-length Inv-loop μ-loop
 same-length c = search needs
 
-same-length-2 : tie.Need-same-length-2 Inv-loop μ-loop
-same-length-2 c = search needs
-
-returns : tie.Need-returns Inv-loop μ-loop
-returns c =
+returns-2 : tie.Need-returns-2 Inv-loop μ-loop
+returns-2 c =
     let turn = c .before in
-    let args = turn .before .before .before .before .before .before .args in
-    judged-whole (args .formulas .now) (args .list .now) (args .places .now) (args .h) (args .t) (args .heres .now) (args .theres .now)
-    (turn .loop .inv) (search needs)
+    let args = turn .before .before .before .before .before .before .before .args in
+    judged-whole (args .formulas .now) (args .list .now) (args .slots .now) (args .places .now) (args .h) (args .g) (args .t) (args .table .now)
+    (turn .loop .inv .1) (search needs)
 
 pub judge-listed-spec : {M : Type 1} → statement M
 judge-listed-spec =
@@ -77,17 +82,15 @@ judge-listed-spec =
     (tie.spec
     Inv-loop
     μ-loop
+    returns
     loop-holds
     sub-k
     mul-wide
     shared-slice-read-wide
     wide-requires
     node-requires
-    judged-requires
-    put-note-requires
-    put-note-requires-2
+    judge-requires
     loop-less
     loop-again
     same-length
-    same-length-2
-    returns)
+    returns-2)
