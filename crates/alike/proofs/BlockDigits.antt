@@ -3,7 +3,7 @@ use Prim.Native.Nat.{ℕ, zero, suc, _+_, _-_, _*_, _/_, _%_, _^_, _≤_, _<_}
 use native.Mathlib.Decide.{decLt}
 use native.Mathlib.Nat.{add-zero}
 use native.Mathlib.Omega.{arith}
-use mathlib.Core.Bool.{Bool, false, not, _&&_, _||_}
+use mathlib.Core.Bool.{false, not, _&&_, _||_}
 use mathlib.Core.List.{List, [], _∷_, _++_}
 use mathlib.Core.Logic.{_⊎_, inl, inr, ⊎-elim, _↔_}
 use mathlib.Core.Path.{_≡_, refl, sym, ap, ap₂, subst, _∙_}
@@ -13,7 +13,7 @@ use lib.Seq.{getD-set-same, getD-set-other, sets, length-sets}
 use Rattle.atomset.specs.AtomSet.{has}
 use Rattle.atomset.proofs.Digits.{has-zero, has-and, has-or, has-not, same-members}
 use Rattle.alike.specs.Blocks.{pairsAtOnce, wordOf, wordsOf, digit, SameWords, allOf, bothOf, eitherOf, notOf}
-use Rattle.alike.specs.Blocks.{truthWords, hereIn, alsoIn, thereIn, truthIn, Roomy, TruthPut}
+use Rattle.alike.specs.Blocks.{truthWords, hereIn, alsoIn, thereIn, Roomy, TruthPut}
 use Rattle.alike.specs.declared.blocks.Block.{Block}
 use Rattle.alike.specs.declared.blocks.Truth.{Truth}
 

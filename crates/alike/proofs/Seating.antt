@@ -225,7 +225,8 @@ outer-ones n w few fits e = record { few = small-by-digits mostPlaces w (omega a
 
     its : (s : ℕ) → Member s w ↔ ((innerPlaces ≤ s) × (s < n))
     its s = (
-      λ m. let k = split (has (2 ^ n - 1) s) (has 31 s) (sym (e s) ∙ m) in (by (decLt s innerPlaces) (λ l. k .1 (ones-iff innerPlaces s .1 l)), ones-iff n s .0 (k .0)),
+      λ m. let k = split (has (2 ^ n - 1) s) (has 31 s) (sym (e s) ∙ m) in
+          (by (decLt s innerPlaces) (λ l. k .1 (ones-iff innerPlaces s .1 l)), ones-iff n s .0 (k .0)),
       λ (l, k). e s ∙ join (has (2 ^ n - 1) s) (has 31 s) (ones-iff n s .1 k) (λ h. let low = ones-iff innerPlaces s .0 h in omega arith),
     )
       where

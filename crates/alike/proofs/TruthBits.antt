@@ -141,7 +141,8 @@ module _ (key : NodeRecord) (slots places : List ℕ) (h g t k : ℕ) (table : L
   abbrev Y : Truth
   Y = truthIn table (slotOf slots (key .second))
 
-  pub judged-put : {table′ : List ℕ} (v : Truth) → TruthPut table k v table′ → (((p : ℕ) → PartOf key p → Roomy table (slotOf slots p)) → Judged key places h g t X Y v)
+  pub judged-put : {table′ : List ℕ} (v : Truth) → TruthPut table k v table′
+      → (((p : ℕ) → PartOf key p → Roomy table (slotOf slots p)) → Judged key places h g t X Y v)
       → JudgedNext key slots places h g t k table table′
   judged-put v put judged = record {
     long = put .long;
@@ -150,7 +151,8 @@ module _ (key : NodeRecord) (slots places : List ℕ) (h g t k : ℕ) (table : L
   }
 
   -- an atom, falsum, or what is no formula
-  pub judged-simple : {table′ : List ℕ} {v : Truth} → TruthPut table k v table′ → Judged key places h g t X Y v → JudgedNext key slots places h g t k table table′
+  pub judged-simple : {table′ : List ℕ} {v : Truth} → TruthPut table k v table′ → Judged key places h g t X Y v
+      → JudgedNext key slots places h g t k table table′
   judged-simple {v} put judged = judged-put v put (λ room. judged)
 
   pub judged-nothing : {table′ : List ℕ} {none : Block} → none ≡ allOf 0 → (key .word ≡ 1 → ⊥) → (key .word ≡ 2 → ⊥) → (key .word ≡ 3 → ⊥)
@@ -163,8 +165,8 @@ module _ (key : NodeRecord) (slots places : List ℕ) (h g t k : ℕ) (table : L
       }))
 
   -- a connective with one part
-  pub judged-one : (f : Truth → Truth) → 2 ≤ key .word → Judged key places h g t X Y (f X) → {table′ : List ℕ} {x : ℕ} {v x′ : Truth} → TruthPut table k v table′
-      → v ≡ f x′ → x′ ≡ truthIn table x → (Roomy table (slotOf slots (key .first)) → x ≡ slotOf slots (key .first))
+  pub judged-one : (f : Truth → Truth) → 2 ≤ key .word → Judged key places h g t X Y (f X) → {table′ : List ℕ} {x : ℕ} {v x′ : Truth}
+      → TruthPut table k v table′ → v ≡ f x′ → x′ ≡ truthIn table x → (Roomy table (slotOf slots (key .first)) → x ≡ slotOf slots (key .first))
       → JudgedNext key slots places h g t k table table′
   judged-one f one judged {v = v} put e xe at = judged-put v put (λ room.
       subst (Judged key places h g t X Y) (sym (e ∙ ap f (xe ∙ ap (λ (i : ℕ). truthIn table i) (at (room _ (first-part one)))))) judged)

@@ -129,7 +129,8 @@ fn alike_few(
     candidates: u64,
 ) -> bool
     requires { ⌜ (outer < 2 ^ mostPlaces) × (length (now list) ≤ 32) ⌝ }
-    ensures { λ r. ⌜ AnyAlike (now (formulas .entry)) (now (list .entry)) (now (slots .entry)) (now (places .entry)) outer own (now (side .entry)) candidates r ⌝ }
+    ensures { λ r. ⌜ AnyAlike (now (formulas .entry)) (now (list .entry)) (now (slots .entry)) (now (places .entry)) outer own (now (side .entry))
+        candidates r ⌝ }
 {
     let mut table = [0u64; FEW_WORDS];
     any_alike(
@@ -157,7 +158,8 @@ fn alike_many(
     candidates: u64,
 ) -> bool
     requires { ⌜ (outer < 2 ^ mostPlaces) × (length (now list) ≤ mostFormulas) ⌝ }
-    ensures { λ r. ⌜ AnyAlike (now (formulas .entry)) (now (list .entry)) (now (slots .entry)) (now (places .entry)) outer own (now (side .entry)) candidates r ⌝ }
+    ensures { λ r. ⌜ AnyAlike (now (formulas .entry)) (now (list .entry)) (now (slots .entry)) (now (places .entry)) outer own (now (side .entry))
+        candidates r ⌝ }
 {
     let mut table = [0u64; MOST_WORDS];
     any_alike(

@@ -1,5 +1,5 @@
 -- `alike::survivors::still_alike` meets its contract: candidates filtered one by one. Assumes nothing.
-use Prim.Native.Nat.{ℕ, _^_, _<_}
+use Prim.Native.Nat.{_^_, _<_}
 use native.Mathlib.Omega.{arith}
 use mathlib.Core.Bool.{true, false≢true}
 use mathlib.Core.List.{_∷_}
@@ -46,7 +46,8 @@ compared c =
     let own-also = turn .before in
     let own-here = own-also .before .before in
     let args = own-here .before .before .before .before .before .args in
-    same-at (args .table .now) (args .slots .now) (args .side .now) (args .own) _ (own-here .here-in .ensures) (own-here .before .slot-of .ensures) (own-also .also-in .ensures) (own-also .before .slot-of2 .ensures)
+    same-at (args .table .now) (args .slots .now) (args .side .now) (args .own) _ (own-here .here-in .ensures) (own-here .before .slot-of .ensures)
+    (own-also .also-in .ensures) (own-also .before .slot-of2 .ensures)
     (here .here-in2 .ensures) (also .also-in2 .ensures) (slot .slot-of3 .ensures) (named .formula-at .ensures) (c .same-both .ensures)
 
 slot-of-requires : tie.Need-slot-of-requires Inv-loop μ-loop

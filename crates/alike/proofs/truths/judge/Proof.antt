@@ -59,7 +59,8 @@ returns c =
       first = of-and (args .key) (args .places .now) _ _ (args .h) (args .t) (test .if1 .taken);
       second = of-and (args .key) (args .places .now) _ _ (args .g) (args .t) (test .if1 .taken);
     }) (put .put-truth .ensures) (joined .conjunction .ensures) (first .truth-in .ensures) (second .truth-in2 .ensures)
-    (at-slot table slots (x .before .wide .ensures) (x .slot-within .ensures .1)) (at-slot table slots (y .before .wide2 .ensures) (y .slot-within2 .ensures .1))
+    (at-slot table slots (x .before .wide .ensures) (x .slot-within .ensures .1))
+    (at-slot table slots (y .before .wide2 .ensures) (y .slot-within2 .ensures .1))
 
 truth-in-requires-3 : tie.Need-truth-in-requires-3
 truth-in-requires-3 c κs = search needs
@@ -97,7 +98,8 @@ returns-2 c =
       first = of-or (args .key) (args .places .now) _ _ (args .h) (args .t) (test .if2 .taken);
       second = of-or (args .key) (args .places .now) _ _ (args .g) (args .t) (test .if2 .taken);
     }) (put .put-truth2 .ensures) (joined .disjunction .ensures) (first .truth-in3 .ensures) (second .truth-in4 .ensures)
-    (at-slot table slots (x .before .wide .ensures) (x .slot-within .ensures .1)) (at-slot table slots (y .before .wide2 .ensures) (y .slot-within2 .ensures .1))
+    (at-slot table slots (x .before .wide .ensures) (x .slot-within .ensures .1))
+    (at-slot table slots (y .before .wide2 .ensures) (y .slot-within2 .ensures .1))
 
 truth-in-requires-5 : tie.Need-truth-in-requires-5
 truth-in-requires-5 c κs = search needs
@@ -136,7 +138,8 @@ returns-3 c =
       first = of-imp (args .key) (args .places .now) _ _ (args .h) (args .t) (test .if3 .taken) (here-small table small _) (there-small table small _);
       second = of-imp (args .key) (args .places .now) _ _ (args .g) (args .t) (test .if3 .taken) (also-small table small _) (there-small table small _);
     }) (put .put-truth3 .ensures) (joined .implication .ensures) (first .truth-in5 .ensures) (second .truth-in6 .ensures)
-    (at-slot table slots (x .before .wide .ensures) (x .slot-within .ensures .1)) (at-slot table slots (y .before .wide2 .ensures) (y .slot-within2 .ensures .1))
+    (at-slot table slots (x .before .wide .ensures) (x .slot-within .ensures .1))
+    (at-slot table slots (y .before .wide2 .ensures) (y .slot-within2 .ensures .1))
 
 truth-in-requires-7 : tie.Need-truth-in-requires-7
 truth-in-requires-7 c κs = search needs

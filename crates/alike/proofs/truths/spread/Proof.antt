@@ -5,7 +5,7 @@ use mathlib.Core.Bool.{true}
 use mathlib.Core.Path.{_≡_, refl, sym, ap, _∙_}
 use borrow.Author.Needs.{needs}
 use Rattle.atomset.specs.AtomSet.{has}
-use Rattle.alike.specs.Blocks.{digit, allOf}
+use Rattle.alike.specs.Blocks.{digit}
 use Rattle.alike.specs.declared.blocks.Block.{Block}
 use Rattle.alike.proofs.BlockDigits.{digit-all, digit-none}
 use Rattle.alike.proofs.TruthBits.{agree, agree-below}

@@ -2,8 +2,8 @@
 use Prim.Native.Nat.{_<_}
 use native.Mathlib.Nat.{mod-eq-of-lt}
 use native.Mathlib.Omega.{arith}
-use mathlib.Core.Path.{_≡_, refl, _∙_}
-use lib.ListN.{length, length-set}
+use mathlib.Core.Path.{refl, _∙_}
+use lib.ListN.{length-set}
 use borrow.Author.Needs.{needs}
 use Rattle.format.specs.Tables.{mostFormulas}
 use Rattle.alike.specs.Under.{Room}
@@ -82,8 +82,8 @@ loop-again c =
         list-long = simp length-set (full .list-long);
         slots-long = simp length-set (full .slots-long);
       },
-      next-listed (turn .loop .inv .1) (search needs) refl place slot (omega (arith, room test, full .list-long)) (omega (arith, full .marks-long, start .pre .0))
-          (omega (arith, full .slots-long, start .pre .0)) (parts .before .before .if1 .taken) marked,
+      next-listed (turn .loop .inv .1) (search needs) refl place slot (omega (arith, room test, full .list-long))
+          (omega (arith, full .marks-long, start .pre .0)) (omega (arith, full .slots-long, start .pre .0)) (parts .before .before .if1 .taken) marked,
     )
 
 loop-less-2 : tie.Need-loop-less-2 Inv-loop μ-loop
