@@ -18,6 +18,10 @@ use Rattle.alike.specs.Truths.{slotOf, Pair, Ready}
 abbrev pub mostPlaces : ℕ
 mostPlaces = 8
 
+-- the most formulas of a short list, for which a small table will do
+abbrev pub fewListed : ℕ
+fewListed = 32
+
 -- a table has the same words for both formulas, with both smaller sets
 abbrev pub SameHere : List ℕ → List ℕ → ℕ → ℕ → Type 0
 SameHere table slots a x =

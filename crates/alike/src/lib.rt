@@ -15,7 +15,7 @@ ghost use lib.ListN.{length, getD};
 ghost use Rattle.atomset.specs.AtomSet.{Member};
 ghost use Rattle.format.specs.Tables.{mostFormulas};
 ghost use Rattle.alike.specs.Under.{Room};
-ghost use Rattle.alike.specs.Survivors.{mostPlaces, Remain, AnyAlike};
+ghost use Rattle.alike.specs.Survivors.{mostPlaces, fewListed, Remain, AnyAlike};
 ghost use Rattle.alike.specs.Places.{Seated};
 ghost use Rattle.alike.specs.Alike.{atomsAt, Few, CandidatesMarked, Bounded, SomeAlike, SomeEqual, Grouped, GroupJudged, CandidatesNumbered};
 use crate::places::NO_PLACE;
@@ -43,9 +43,10 @@ use tables::records::wide;
 // The most atoms that two formulas of `swap` have together.
 const MOST_SWAPPED: usize = 8;
 
-// The words for the truths of a short list, and of any.
-const FEW: usize = 32;
+// The most formulas of a short list.
+const FEW_LISTED: usize = 32;
 
+// The words for the truths of a short list, and of any.
 const FEW_WORDS: usize = 384;
 
 const MOST_WORDS: usize = 12288;
@@ -128,7 +129,7 @@ fn alike_few(
     side: &[u16],
     candidates: u64,
 ) -> bool
-    requires { ⌜ (outer < 2 ^ mostPlaces) × (length (now list) ≤ 32) ⌝ }
+    requires { ⌜ (outer < 2 ^ mostPlaces) × (length (now list) ≤ fewListed) ⌝ }
     ensures { λ r. ⌜ AnyAlike (now (formulas .entry)) (now (list .entry)) (now (slots .entry)) (now (places .entry)) outer own (now (side .entry))
         candidates r ⌝ }
 {
@@ -195,7 +196,7 @@ fn alike_with(
     mark_candidates(side, candidates, marks);
     let n = list_under(formulas, end, marks, list, slots);
     let outer = outer_places(width);
-    if n <= FEW {
+    if n <= FEW_LISTED {
         return alike_few(
             formulas,
             &list[..n],
