@@ -389,10 +389,11 @@ static void refused_swaps(struct file *f, int atoms, int rounds) {
 /* A formula that rests on so many others, each on the one before it. Their words are drawn, and do not come in turn: a processor guesses a
  * branch by those before it, and then often guesses wrong what is to be done for the next formula. */
 static int irregular_chain(struct file *f, int bot, int length) {
+    static const char *const words[] = {"and", "or", "imp"};
     int newest = bot;
     unsigned drawn = 1;
     for (int i = 0; i < length; i++) {
-        newest = formula(f, drawn % 3 != 0 ? "imp" : "and", newest, bot);
+        newest = formula(f, words[drawn % 3], newest, bot);
         drawn = drawn * 75 % 65537;
     }
     return newest;
