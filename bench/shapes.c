@@ -367,9 +367,13 @@ static void slow_swap(struct file *f, const struct choice *c, int a) {
     row(f, "swap", a, c->first, NONE, with(c->from, a), one(c->from.formulas[0]));
 }
 
-static void accept(struct file *f, const struct choice *c, int rounds) {
+static void slow_rows(struct file *f, const struct choice *c, int rounds) {
     for (int i = 0; i < rounds; i++)
         slow_swap(f, c, c->fits);
+}
+
+static void accept(struct file *f, const struct choice *c, int rounds) {
+    slow_rows(f, c, rounds);
     close_with(f, 0);
 }
 
@@ -381,8 +385,7 @@ static void accepted_swaps(struct file *f, int atoms, int rounds) {
 /* The same with a last row that is refused. */
 static void refused_swaps(struct file *f, int atoms, int rounds) {
     struct choice c = slow_choice(f, atoms);
-    for (int i = 1; i < rounds; i++)
-        slow_swap(f, &c, c.fits);
+    slow_rows(f, &c, rounds - 1);
     slow_swap(f, &c, c.differs);
 }
 
@@ -470,6 +473,18 @@ static void clashing_swaps(struct file *f, int candidates, int rounds) {
     accept(f, &c, rounds);
 }
 
+/* The same, with a claim whose model has all sixteen atoms and is tried part by part: the slowest file of all. */
+static void modelled_swaps(struct file *f, int candidates, int rounds) {
+    struct choice c = clashing_choice(f, candidates);
+    slow_rows(f, &c, rounds);
+    int a = c.from.formulas[0], b = c.from.formulas[1];
+    row(f, "same", a, NONE, NONE, two(a, b), one(a));
+    struct side all = {0};
+    for (int i = 0; i < POOL; i++)
+        all = with(all, i);
+    model(f, all);
+}
+
 /* Falsum in the place of a formula that rests on all others, over eight atoms, and never holds: one to choose from, and the most rows. */
 static void lone_swaps(struct file *f, int rounds) {
     int p[IN_SWAP];
@@ -511,6 +526,7 @@ const struct shape slow_swaps[SLOW_SWAPS] = {
     {"own atoms", .write_over = accepted_swaps, .size = 64, .in_runs = true, .filled_in_runs = true},
     {"clashing atoms", .write_over = clashing_swaps, .size = MOST_ON_SIDE - 1, .in_runs = true, .filled_in_runs = true},
     {"clashing, 11", .write_over = clashing_swaps, .size = 11, .in_runs = true, .filled_in_runs = true},
+    {"and a model", .write_over = modelled_swaps, .size = 11, .in_runs = true, .filled_in_runs = true},
     {"one candidate", .write = lone_swaps},
 };
 

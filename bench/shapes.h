@@ -41,7 +41,7 @@ struct shape {
     int size;            /* how many atoms, or formulas to choose from */
 };
 
-enum { SHAPES = 9, SLOW_MODELS = 5, SLOW_SWAPS = 6, LONG_LINES = 3 };
+enum { SHAPES = 9, SLOW_MODELS = 5, SLOW_SWAPS = 7, LONG_LINES = 3 };
 
 extern const struct shape shapes[SHAPES], slow_models[SLOW_MODELS], slow_swaps[SLOW_SWAPS];
 
