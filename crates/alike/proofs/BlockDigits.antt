@@ -3,18 +3,19 @@ use Prim.Native.Nat.{ℕ, zero, suc, _+_, _-_, _*_, _/_, _%_, _^_, _≤_, _<_}
 use native.Mathlib.Decide.{decLt}
 use native.Mathlib.Nat.{add-zero}
 use native.Mathlib.Omega.{arith}
-use mathlib.Core.Bool.{false, not, _&&_, _||_}
+use mathlib.Core.Bool.{Bool, false, _&&_, xor}
 use mathlib.Core.List.{List, [], _∷_, _++_}
 use mathlib.Core.Logic.{_⊎_, inl, inr, ⊎-elim, _↔_}
 use mathlib.Core.Path.{_≡_, refl, sym, ap, ap₂, subst, _∙_}
-use lib.Bits.{bitAnd, bitOr}
+use lib.Bits.{bitAnd, bitXor}
 use lib.ListN.{length, getD, set, length-set}
 use lib.Seq.{getD-set-same, getD-set-other, sets, length-sets}
 use Rattle.atomset.specs.AtomSet.{has}
-use Rattle.atomset.proofs.Digits.{has-zero, has-and, has-or, has-not, same-members}
-use Rattle.alike.specs.Blocks.{pairsAtOnce, wordOf, wordsOf, digit, SameWords, allOf, bothOf, eitherOf, notOf}
+use Rattle.atomset.proofs.Digits.{has-zero, has-and, has-xor, same-members}
+use Rattle.alike.specs.Blocks.{pairsAtOnce, wordOf, wordsOf, digit, SameWords, allOf, bothOf, joinedWord, joinedOf}
 use Rattle.alike.specs.Blocks.{truthWords, hereIn, alsoIn, thereIn, Roomy, TruthPut}
 use Rattle.alike.specs.declared.blocks.Block.{Block}
+use Rattle.alike.specs.declared.blocks.Signs.{Signs}
 use Rattle.alike.specs.declared.blocks.Truth.{Truth}
 
 -- ---- digits
@@ -46,26 +47,25 @@ digit-both x y n = ap (λ (w : ℕ). has w (n % 64)) (words (n / 64)) ∙ has-an
     words (suc (suc zero)) = refl
     words (suc (suc (suc k))) = refl
 
-pub digit-either : (x y : Block) (n : ℕ) → digit (eitherOf x y) n ≡ (digit x n || digit y n)
+-- two digits as the parts of a conjunction, with the parts and the whole turned at digit i of the signs
+abbrev pub joinedDigit : Signs → ℕ → Bool → Bool → Bool
+joinedDigit s i A B = xor (xor A (has (s .first) i) && xor B (has (s .second) i)) (has (s .whole) i)
+
+pub digit-joined : (s : Signs) (x y : Block) (n : ℕ) → digit (joinedOf s x y) n ≡ joinedDigit s (n % 64) (digit x n) (digit y n)
 unfolding digit wordOf
-digit-either x y n = ap (λ (w : ℕ). has w (n % 64)) (words (n / 64)) ∙ has-or (wordOf x (n / 64)) (wordOf y (n / 64)) (n % 64)
+digit-joined s x y n = ap (λ (w : ℕ). has w (n % 64)) (words (n / 64)) ∙ word (wordOf x (n / 64)) (wordOf y (n / 64)) (n % 64)
   where
-    words : (k : ℕ) → wordOf (eitherOf x y) k ≡ bitOr (wordOf x k) (wordOf y k)
+    words : (k : ℕ) → wordOf (joinedOf s x y) k ≡ joinedWord s (wordOf x k) (wordOf y k)
     words zero = refl
     words (suc zero) = refl
     words (suc (suc zero)) = refl
     words (suc (suc (suc k))) = refl
 
-pub digit-not : (x : Block) → Small x → (n : ℕ) → digit (notOf x) n ≡ not (digit x n)
-unfolding digit wordOf
-digit-not x small n =
-    ap (λ (w : ℕ). has w (n % 64)) (words (n / 64)) ∙ has-not 64 (wordOf x (n / 64)) (n % 64) (small (n / 64)) (omega arith)
-  where
-    words : (k : ℕ) → wordOf (notOf x) k ≡ (2 ^ 64 - 1) - wordOf x k
-    words zero = refl
-    words (suc zero) = refl
-    words (suc (suc zero)) = refl
-    words (suc (suc (suc k))) = refl
+    word : (a b i : ℕ) → has (joinedWord s a b) i ≡ joinedDigit s i (has a i) (has b i)
+    word a b i =
+        has-xor (bitAnd (bitXor a (s .first)) (bitXor b (s .second))) (s .whole) i
+        ∙ ap (λ (d : Bool). xor d (has (s .whole) i)) (has-and (bitXor a (s .first)) (bitXor b (s .second)) i
+        ∙ ap₂ _&&_ (has-xor a (s .first) i) (has-xor b (s .second) i))
 
 -- digit j of word k
 digit-at : (x : Block) (k j : ℕ) → j < 64 → digit x (64 * k + j) ≡ has (wordOf x k) j
@@ -117,13 +117,6 @@ module _ (table : List ℕ) (small : (i : ℕ) → getD table i 0 < 2 ^ 64) (k :
   also-small (suc zero) = small (truthWords * k + 5)
   also-small (suc (suc zero)) = small (truthWords * k + 6)
   also-small (suc (suc (suc i))) = small (truthWords * k + 7)
-
-  pub there-small : Small (thereIn table k)
-  unfolding thereIn wordOf
-  there-small zero = small (truthWords * k + 8)
-  there-small (suc zero) = small (truthWords * k + 9)
-  there-small (suc (suc zero)) = small (truthWords * k + 10)
-  there-small (suc (suc (suc i))) = small (truthWords * k + 11)
 
 -- a block by its words
 block-is : {x y : Block} → x .w0 ≡ y .w0 → x .w1 ≡ y .w1 → x .w2 ≡ y .w2 → x .w3 ≡ y .w3 → x ≡ y

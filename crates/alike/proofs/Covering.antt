@@ -26,8 +26,8 @@ use Rattle.alike.specs.Blocks.{pairsAtOnce}
 use Rattle.alike.specs.Truths.{innerPlaces, third, hereAt, thereAt, placeOf, Pair}
 use Rattle.alike.specs.Survivors.{AlikeOver}
 use Rattle.alike.specs.Places.{Seated, Outer}
-use Rattle.alike.proofs.Words.{same-truth, word-of, NumberOf, number-of, pair-of, heres, theres}
-use Rattle.alike.proofs.Surviving.{part-small}
+use Rattle.alike.proofs.Words.{same-truth, word-of, NumberOf, number-of, pair-of, heres, theres, pair-inside}
+use Rattle.alike.proofs.Surviving.{part-small, part-included}
 
 -- what a list is mapped to
 in-map : {X : Type 0} (f : X → ℕ) (xs : List X) (y : ℕ) → (y ∈ map f xs) ↔ ((x : X) × (x ∈ xs) × (y ≡ f x))
@@ -51,15 +51,6 @@ answer-says (no n) = (λ e. absurd (false≢true e), λ x. absurd (n x))
 -- the number is in the list
 abbrev inside : ℕ → List ℕ → Bool
 inside s xs = answer (dec-in ℕ-discrete s xs)
-
--- a part of t has no place that t lacks
-here-there : (t n : ℕ) → t < 2 ^ 64 → (s i : ℕ) → hereAt (setOf (part n (members t))) s i ≡ true → thereAt t s i ≡ true
-unfolding hereAt thereAt
-here-there t n small s i = by (ltb s innerPlaces)
-  where
-    by : (b : Bool) → cond b (eqb (third i s) 2) (has (setOf (part n (members t))) s) ≡ true → cond b (ltb 0 (third i s)) (has t s) ≡ true
-    by true e = lt-ltb 0 (third i s) (omega (arith, eqb-true (third i s) 2 e))
-    by false e = member-members t small s .1 (part-inside n (members t) s (member-setOf (part n (members t)) s .0 e))
 
 -- the digit in base three of a place that is in the greater set or not, and in the smaller
 state : Bool → Bool → ℕ
@@ -261,17 +252,8 @@ module _ (places : List ℕ) (width outer set : ℕ) (fits : set < 2 ^ 64) (smal
         (n H T t-in h-in) (every-part (outer-here H T t-in h-in) .1) (i H T t-in h-in) (i-below H T t-in h-in) _ _ p)))
 
     from-sets : Equal A B → AlikeOver b places outer a x
-    from-sets e m l n k i low-i h t pair = words-sets h t (pair .here-small) (pair .there-small) .1 (e (members h) (members t) inside-there)
-      where
-        there : ℕ
-        there = setOf (part m (members outer))
-
-        inside-there : members h ⊆ members t
-        inside-there p u =
-            let here = member-members h (pair .here-small) p .1 u in
-            let low = member-lt 64 h p (pair .here-small) here in
-            member-members t (pair .there-small) p .0 (pair .there p low
-            ∙ here-there there n (part-small 64 outer m small small) (placeOf places p) i (sym (pair .here p low) ∙ here))
+    from-sets e m l n k i low-i h t pair = words-sets h t (pair .here-small) (pair .there-small) .1 (e (members h) (members t)
+        (pair-inside pair (part-included (setOf (part m (members outer))) n (part-small 64 outer m small small))))
 
     -- alike in all pairs of places exactly if equal
     pub alike-iff : AlikeOver b places outer a x ↔ Equal A B

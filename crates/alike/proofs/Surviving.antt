@@ -12,11 +12,11 @@ use Rattle.equilibrium.specs.Meaning.{_∈_}
 use Rattle.elk.specs.Instance.{Rising}
 use Rattle.elk.proofs.Rising.{rising-rest, rising-below}
 use Rattle.format.specs.File.{Body}
-use Rattle.atomset.specs.AtomSet.{Member, members, setOf}
+use Rattle.atomset.specs.AtomSet.{Member, Included, members, setOf}
 use Rattle.atomset.proofs.Digits.{has-zero, shl-one}
 use Rattle.atomset.proofs.Membership.{member-lt}
 use Rattle.atomset.proofs.Members.{members-rising, member-members}
-use Rattle.atomset.proofs.SetOf.{setOf-lt}
+use Rattle.atomset.proofs.SetOf.{member-setOf, setOf-lt}
 use Rattle.pairs.specs.Parts.{part}
 use Rattle.pairs.proofs.Parts.{part-inside}
 use Rattle.alike.specs.Blocks.{truthIn}
@@ -46,6 +46,10 @@ few-members k set l h fits =
 pub part-small : (k set n : ℕ) → set < 2 ^ k → set < 2 ^ 64 → setOf (part n (members set)) < 2 ^ k
 part-small k set n h fits =
     setOf-lt k (part n (members set)) (λ i m. member-lt k set i h (member-members set fits i .1 (part-inside n (members set) i m)))
+
+-- nor a place that the whole lacks
+pub part-included : (set n : ℕ) → set < 2 ^ 64 → Included (setOf (part n (members set))) set
+part-included set n fits i m = member-members set fits i .1 (part-inside n (members set) i (member-setOf (part n (members set)) i .0 m))
 
 -- at most 256 parts
 pub few-parts : (set : ℕ) → set < 2 ^ mostPlaces → set < 2 ^ 64 → 2 ^ length (members set) ≤ 256
@@ -77,12 +81,12 @@ module _ (formulas list slots places : List ℕ) (t a : ℕ) (side : List ℕ) (
   below-starts s = record { small = s; long = refl; remain = λ b p r c. (λ m. (m, λ i l. absurd (omega arith)), λ h. h .0) }
 
   -- two parts more, or the last one twice
-  pub below-next : {table : List ℕ} {kept n : ℕ} → BelowSoFar table kept n → n < parts → (m : ℕ) → m ≡ min (n + 1) (parts - 1)
+  pub below-next : t < 2 ^ 64 → {table : List ℕ} {kept n : ℕ} → BelowSoFar table kept n → n < parts → (m : ℕ) → m ≡ min (n + 1) (parts - 1)
       → (h g : ℕ) → h ≡ setOf (part n (members t)) → g ≡ setOf (part m (members t))
       → {table′ : List ℕ} → JudgedAll formulas list slots places h g t table table′ → ((i : ℕ) → getD table′ i 0 < 2 ^ 64)
       → (kept′ : ℕ) → kept′ < 2 ^ 64 → ((c : ℕ) → Member c kept′ ↔ (Member c kept × SameHere table′ slots a (getD side c 0)))
       → BelowSoFar table′ kept′ (n + 2)
-  below-next {table} {kept} {n} s low m least h g e f {table′} judged bound kept′ small′ still = record {
+  below-next fits {table} {kept} {n} s low m least h g e f {table′} judged bound kept′ small′ still = record {
     small = small′;
     long = judged .long ∙ s .long;
     remain = λ b p r c. (
@@ -97,7 +101,9 @@ module _ (formulas list slots places : List ℕ) (t a : ℕ) (side : List ℕ) (
     where
       right : (b : Body) → Prepared b formulas list slots a side alive → RoomFor list table₀ → (i : ℕ) → i ∈ list
           → Right b places h g t i (truthIn table′ (slotOf slots i))
-      right b p r = judged .right b (p .ready) (omega (arith, s .long))
+      right b p r =
+          judged .right b (p .ready) (omega (arith, s .long)) (subst (λ (z : ℕ). Included z t) (sym e) (part-included t n fits))
+          (subst (λ (z : ℕ). Included z t) (sym f) (part-included t m fits))
 
       words : (b : Body) → Prepared b formulas list slots a side alive → RoomFor list table₀ → (c : ℕ) → Member c kept
           → SameHere table′ slots a (getD side c 0) ↔ (InPart b n c × InPart b m c)

@@ -1,35 +1,40 @@
 -- The truths of formulas digit by digit: constant blocks, the truth of a formula by those of its parts, and that these are the truths of a
 -- good body's formulas in the 256 pairs.
-use Prim.Native.Nat.{ℕ, zero, suc, _+_, _-_, _*_, _/_, _≤_, _<_}
+use Prim.Native.Nat.{ℕ, zero, suc, _+_, _-_, _*_, _/_, _%_, _≤_, _<_}
+use native.Mathlib.Decide.{ℕ-discrete}
 use native.Mathlib.Omega.{arith}
-use mathlib.Core.Bool.{Bool, true, false, not, _&&_, _||_, false≢true}
+use mathlib.Core.Bool.{Bool, true, false, cond, not, _&&_, _||_, xor, false≢true}
 use mathlib.Core.List.{List, [], _∷_, List·Memᴰ·head, List·Memᴰ·tail, List·Memᴰ·not-nil, List·Memᴰ·cases-cons}
 use mathlib.Core.Logic.{⊎-elim}
 use mathlib.Core.Path.{_≡_, refl, sym, ap, ap₂, subst, _∙_}
-use borrow.Author.Tests.{ne-eqb, leb-false}
+use borrow.Author.Tests.{eq-eqb, ne-eqb, leb-false}
+use lib.Dec.{eqb, leb}
 use lib.ListN.{length, getD, drop, length-take, length-drop}
 use lib.Seq.{drop-cons, drop-length, getD-drop}
-use Rattle.equilibrium.specs.Formula.{Formula}
+use Rattle.equilibrium.specs.Formula.{Formula, conj, disj}
 use Rattle.equilibrium.specs.Meaning.{_∈_}
 use Rattle.format.specs.File.{Node, Body, decodedAt, formulaOf, formulas as formulasOf}
 use Rattle.format.specs.Tables.{nodeRecord}
 use Rattle.format.specs.Tests.{sameTruth, refersAhead, unknownFormula}
 use Rattle.format.proofs.Formulas.{known-earlier}
 use Rattle.format.proofs.GoodBodies.{beforeNode, good-held, at-end, in-getD, in-place}
+use Rattle.atomset.specs.AtomSet.{has, Included}
 use Rattle.tables.specs.Holding.{Formulas}
 use Rattle.tables.specs.Records.{nodeAt, recordFrom}
 use Rattle.tables.specs.declared.records.NodeRecord.{NodeRecord}
 use Rattle.pairs.specs.Pairs.{holdsIn}
 use Rattle.pairs.specs.Truths.{byWord}
 use Rattle.pairs.proofs.Truths.{and-self, each-node}
-use Rattle.alike.specs.Blocks.{digit, allOf, bothOf, eitherOf, notOf}
+use Rattle.alike.specs.Blocks.{digit, allOf, bothOf, joinedOf, joinedTruth}
 use Rattle.alike.specs.Blocks.{truthWords, truthIn, Roomy, TruthPut}
 use Rattle.alike.specs.Under.{PartOf, first-part, second-part, PartIn}
-use Rattle.alike.specs.Truths.{hereAt, thereAt, placeOf, View, firstOf, secondOf, PlaceSeen, judgedHere, judgedThere, JudgedSeen, Judged}
-use Rattle.alike.specs.Truths.{slotOf, JudgedNext, Pair, Seen, Right, Ready, JudgedAll}
+use Rattle.alike.specs.Truths.{hereAt, thereAt, placeOf, View, firstOf, secondOf, PlaceSeen, made, judgedHere, judgedThere, JudgedSeen, Judged}
+use Rattle.alike.specs.Truths.{Signed, lastPart, slotOf, JudgedNext, Pair, Seen, Right, Ready, JudgedAll}
 use Rattle.alike.specs.declared.blocks.Block.{Block}
+use Rattle.alike.specs.declared.blocks.Signs.{Signs}
 use Rattle.alike.specs.declared.blocks.Truth.{Truth}
-use Rattle.alike.proofs.BlockDigits.{Small, digit-none, digit-both, digit-either, digit-not}
+use Rattle.alike.proofs.BlockDigits.{digit-none, digit-both, digit-joined, truth-is}
+use Rattle.alike.proofs.Words.{pair-persists}
 
 -- ---- constant blocks
 
@@ -58,73 +63,90 @@ agree-below f g (suc m) e n l =
 
 -- ---- a formula by its parts
 
+-- a connective as a conjunction with its signs
+made-signed : (word : ℕ) → 2 ≤ word → word ≤ 5 → (A B : Bool)
+    → xor (xor A (eqb word 4) && xor (cond (eqb word 2) A B) (leb 4 word)) (not (eqb word 3)) ≡ made word A B
+unfolding made byWord xor
+made-signed zero two five A B = absurd (omega arith)
+made-signed (suc zero) two five A B = absurd (omega arith)
+made-signed (suc (suc zero)) two five true B = refl
+made-signed (suc (suc zero)) two five false B = refl
+made-signed (suc (suc (suc zero))) two five true true = refl
+made-signed (suc (suc (suc zero))) two five true false = refl
+made-signed (suc (suc (suc zero))) two five false B = refl
+made-signed (suc (suc (suc (suc zero)))) two five true B = refl
+made-signed (suc (suc (suc (suc zero)))) two five false true = refl
+made-signed (suc (suc (suc (suc zero)))) two five false false = refl
+made-signed (suc (suc (suc (suc (suc zero))))) two five true true = refl
+made-signed (suc (suc (suc (suc (suc zero))))) two five true false = refl
+made-signed (suc (suc (suc (suc (suc zero))))) two five false B = refl
+made-signed (suc (suc (suc (suc (suc (suc n)))))) two five A B = absurd (omega arith)
+
+module _ (word : ℕ) (two : 2 ≤ word) (five : word ≤ 5) {s : Signs} (signed : Signed word s) where
+  -- so are blocks, z the second of which is the first again for a negation
+  joined-made : (x y z : Block) → z ≡ cond (eqb word 2) x y → (n : ℕ) → digit (joinedOf s x z) n ≡ made word (digit x n) (digit y n)
+  joined-made x y z e n =
+      let i = n % 64 in
+      let last : digit z n ≡ cond (eqb word 2) (digit x n) (digit y n) = ap (λ (v : Block). digit v n) e ∙ of-either (eqb word 2) in
+      digit-joined s x z n
+      ∙ ap₂ (λ (A B : Bool). xor (A && B) (has (s .whole) i)) (ap (xor (digit x n)) (signed .first i (omega arith)))
+      (ap₂ xor last (signed .second i (omega arith)))
+      ∙ ap (xor _) (signed .whole i (omega arith))
+      ∙ made-signed word two five (digit x n) (digit y n)
+    where
+      of-either : (b : Bool) → digit (cond b x y) n ≡ cond b (digit x n) (digit y n)
+      of-either true = refl
+      of-either false = refl
+
+-- what a test that is decided chooses
+chosen : {b : Bool} → b ≡ true → (x y : Bool) → x ≡ cond b x y
+chosen e x y = sym (ap (λ (b : Bool). cond b x y) e)
+
+left : {b : Bool} → b ≡ false → (x y : Bool) → y ≡ cond b x y
+left e x y = sym (ap (λ (b : Bool). cond b x y) e)
+
 module _ (key : NodeRecord) (places : List ℕ) (x y : View) (h t : ℕ) where
-  -- the definitions, with the formula's word
-  with-here : (w : ℕ) → key .word ≡ w → (n : ℕ)
-      → byWord w (hereAt h (placeOf places (key .first)) n) (not (digit (x .there) n))
-      (digit (x .here) n && digit (y .here) n) (digit (x .here) n || digit (y .here) n)
-      ((not (digit (x .there) n) || digit (y .there) n) && (not (digit (x .here) n) || digit (y .here) n))
-      ≡ judgedHere key places h x y n
-  unfolding judgedHere
-  with-here w e n = ap (λ (w : ℕ). byWord w (hereAt h (placeOf places (key .first)) n) (not (digit (x .there) n))
-      (digit (x .here) n && digit (y .here) n) (digit (x .here) n || digit (y .here) n)
-      ((not (digit (x .there) n) || digit (y .there) n) && (not (digit (x .here) n) || digit (y .here) n))) (sym e)
-
-  with-there : (w : ℕ) → key .word ≡ w → (n : ℕ)
-      → byWord w (thereAt t (placeOf places (key .first)) n) (not (digit (x .there) n))
-      (digit (x .there) n && digit (y .there) n) (digit (x .there) n || digit (y .there) n)
-      (not (digit (x .there) n) || digit (y .there) n)
-      ≡ judgedThere key places t x y n
-  unfolding judgedThere
-  with-there w e n = ap (λ (w : ℕ). byWord w (thereAt t (placeOf places (key .first)) n) (not (digit (x .there) n))
-      (digit (x .there) n && digit (y .there) n) (digit (x .there) n || digit (y .there) n)
-      (not (digit (x .there) n) || digit (y .there) n)) (sym e)
-
   pub of-atom : key .word ≡ 1 → (v : View) (place : ℕ) → place ≡ placeOf places (key .first) → PlaceSeen place h t v → JudgedSeen key places h t x y v
-  unfolding byWord
+  unfolding judgedHere judgedThere
   of-atom e v place is truth n l = (
-    truth n l .0 ∙ ap (λ (s : ℕ). hereAt h s n) is ∙ with-here 1 e n,
-    truth n l .1 ∙ ap (λ (s : ℕ). thereAt t s n) is ∙ with-there 1 e n,
+    truth n l .0 ∙ ap (λ (s : ℕ). hereAt h s n) is ∙ chosen (eq-eqb (key .word) 1 e) _ _,
+    truth n l .1 ∙ ap (λ (s : ℕ). thereAt t s n) is ∙ chosen (eq-eqb (key .word) 1 e) _ _,
   )
 
   -- a word that is none of a formula with parts or an atom
-  pub of-none : (key .word ≡ 1 → ⊥) → (key .word ≡ 2 → ⊥) → (key .word ≡ 3 → ⊥) → (key .word ≡ 4 → ⊥) → (key .word ≡ 5 → ⊥)
-      → JudgedSeen key places h t x y (record { here = allOf 0; there = allOf 0 })
-  unfolding byWord judgedHere judgedThere
-  of-none p q r s u n l =
-      let w = key .word in (
-        simp (digit-none n, ne-eqb w 1 p, ne-eqb w 2 q, ne-eqb w 3 r, ne-eqb w 4 s, ne-eqb w 5 u),
-        simp (digit-none n, ne-eqb w 1 p, ne-eqb w 2 q, ne-eqb w 3 r, ne-eqb w 4 s, ne-eqb w 5 u),
-      )
+  pub of-none : (key .word ≡ 1 → ⊥) → (2 ≤ key .word → key .word ≤ 5 → ⊥) → JudgedSeen key places h t x y (record { here = allOf 0; there = allOf 0 })
+  unfolding made byWord judgedHere judgedThere
+  of-none atom parts n l =
+      let w = key .word in
+      let q = ne-eqb w 2 (λ e. parts (omega arith) (omega arith)) in
+      let r = ne-eqb w 3 (λ e. parts (omega arith) (omega arith)) in
+      let s = ne-eqb w 4 (λ e. parts (omega arith) (omega arith)) in
+      let u = ne-eqb w 5 (λ e. parts (omega arith) (omega arith)) in
+      (simp (digit-none n, ne-eqb w 1 atom, q, r, s, u), simp (digit-none n, ne-eqb w 1 atom, q, r, s, u))
 
-  pub of-not : key .word ≡ 2 → Small (x .there) → JudgedSeen key places h t x y (record { here = notOf (x .there); there = notOf (x .there) })
-  unfolding byWord
-  of-not e small n l = (digit-not (x .there) small n ∙ with-here 2 e n, digit-not (x .there) small n ∙ with-there 2 e n)
-
-  pub of-and : key .word ≡ 3 → JudgedSeen key places h t x y (record { here = bothOf (x .here) (y .here); there = bothOf (x .there) (y .there) })
-  unfolding byWord
-  of-and e n l = (digit-both (x .here) (y .here) n ∙ with-here 3 e n, digit-both (x .there) (y .there) n ∙ with-there 3 e n)
-
-  pub of-or : key .word ≡ 4 → JudgedSeen key places h t x y (record { here = eitherOf (x .here) (y .here); there = eitherOf (x .there) (y .there) })
-  unfolding byWord
-  of-or e n l = (digit-either (x .here) (y .here) n ∙ with-here 4 e n, digit-either (x .there) (y .there) n ∙ with-there 4 e n)
-
-  pub of-imp : key .word ≡ 5 → Small (x .here) → Small (x .there)
+  -- a connective, with its last part for the second
+  pub of-joined : 2 ≤ key .word → key .word ≤ 5 → {s : Signs} → Signed (key .word) s → (z : View) → z ≡ cond (eqb (key .word) 2) x y
       → JudgedSeen key places h t x y (record {
-        here = bothOf (eitherOf (notOf (x .there)) (y .there)) (eitherOf (notOf (x .here)) (y .here));
-        there = eitherOf (notOf (x .there)) (y .there);
+        here = bothOf (joinedOf s (x .there) (z .there)) (joinedOf s (x .here) (z .here));
+        there = joinedOf s (x .there) (z .there);
       })
-  unfolding byWord
-  of-imp e small-here small-there n l = (
-    digit-both (eitherOf (notOf (x .there)) (y .there)) (eitherOf (notOf (x .here)) (y .here)) n ∙ ap₂ _&&_ there here ∙ with-here 5 e n,
-    there ∙ with-there 5 e n,
-  )
+  unfolding judgedHere judgedThere
+  of-joined two five {s} signed z e n l =
+      let w = key .word in
+      let other = ne-eqb w 1 (λ i. omega arith) in
+      let there = joined-made w two five signed (x .there) (y .there) (z .there) (ap (λ (v : View). v .there) e ∙ of-there (eqb w 2)) n in
+      let here = joined-made w two five signed (x .here) (y .here) (z .here) (ap (λ (v : View). v .here) e ∙ of-here (eqb w 2)) n in (
+        digit-both (joinedOf s (x .there) (z .there)) (joinedOf s (x .here) (z .here)) n ∙ ap₂ _&&_ there here ∙ left other _ _,
+        there ∙ left other _ _,
+      )
     where
-      there : digit (eitherOf (notOf (x .there)) (y .there)) n ≡ (not (digit (x .there) n) || digit (y .there) n)
-      there = digit-either (notOf (x .there)) (y .there) n ∙ ap (λ (b : Bool). b || digit (y .there) n) (digit-not (x .there) small-there n)
+      of-there : (b : Bool) → cond b x y .there ≡ cond b (x .there) (y .there)
+      of-there true = refl
+      of-there false = refl
 
-      here : digit (eitherOf (notOf (x .here)) (y .here)) n ≡ (not (digit (x .here) n) || digit (y .here) n)
-      here = digit-either (notOf (x .here)) (y .here) n ∙ ap (λ (b : Bool). b || digit (y .here) n) (digit-not (x .here) small-here n)
+      of-here : (b : Bool) → cond b x y .here ≡ cond b (x .here) (y .here)
+      of-here true = refl
+      of-here false = refl
 
 -- ---- a truth put at its slot
 
@@ -155,31 +177,41 @@ module _ (key : NodeRecord) (slots places : List ℕ) (h g t k : ℕ) (table : L
       → JudgedNext key slots places h g t k table table′
   judged-simple {v} put judged = judged-put v put (λ room. judged)
 
-  pub judged-nothing : {table′ : List ℕ} {none : Block} → none ≡ allOf 0 → (key .word ≡ 1 → ⊥) → (key .word ≡ 2 → ⊥) → (key .word ≡ 3 → ⊥)
-      → (key .word ≡ 4 → ⊥) → (key .word ≡ 5 → ⊥) → TruthPut table k (record { here = none; also = none; there = none }) table′
+  pub judged-nothing : {table′ : List ℕ} {v : Truth} {none also : Block} → v .here ≡ none → v .also ≡ none → v .there ≡ also → none ≡ allOf 0
+      → also ≡ allOf 0 → (key .word ≡ 1 → ⊥) → (2 ≤ key .word → key .word ≤ 5 → ⊥) → TruthPut table k v table′
       → JudgedNext key slots places h g t k table table′
-  judged-nothing e a b c d f put = judged-simple put (subst (λ (x : Block). Judged key places h g t X Y (record { here = x; also = x; there = x })) (sym e)
-      (record {
-        first = of-none key places (firstOf X) (firstOf Y) h t a b c d f;
-        second = of-none key places (secondOf X) (secondOf Y) g t a b c d f;
+  judged-nothing p q r e f atom parts put = judged-simple put
+      (subst (Judged key places h g t X Y) (sym (truth-is (p ∙ e) (q ∙ e) (r ∙ f))) (record {
+        first = of-none key places (firstOf X) (firstOf Y) h t atom parts;
+        second = of-none key places (secondOf X) (secondOf Y) g t atom parts;
       }))
 
-  -- a connective with one part
-  pub judged-one : (f : Truth → Truth) → 2 ≤ key .word → Judged key places h g t X Y (f X) → {table′ : List ℕ} {x : ℕ} {v x′ : Truth}
-      → TruthPut table k v table′ → v ≡ f x′ → x′ ≡ truthIn table x → (Roomy table (slotOf slots (key .first)) → x ≡ slotOf slots (key .first))
-      → JudgedNext key slots places h g t k table table′
-  judged-one f one judged {v = v} put e xe at = judged-put v put (λ room.
-      subst (Judged key places h g t X Y) (sym (e ∙ ap f (xe ∙ ap (λ (i : ℕ). truthIn table i) (at (room _ (first-part one)))))) judged)
+  -- the last part is one of the parts
+  last-part : 2 ≤ key .word → PartOf key (lastPart key)
+  last-part two = by (ℕ-discrete (key .word) 2)
+    where
+      by : Dec (key .word ≡ 2) → PartOf key (lastPart key)
+      by (yes e) = subst (λ (b : Bool). PartOf key (cond b (key .first) (key .second))) (sym (eq-eqb (key .word) 2 e)) (first-part two)
+      by (no n) = subst (λ (b : Bool). PartOf key (cond b (key .first) (key .second))) (sym (ne-eqb (key .word) 2 n)) (second-part (omega arith))
 
-  -- and with two
-  pub judged-two : (f : Truth → Truth → Truth) → 3 ≤ key .word → Judged key places h g t X Y (f X Y) → {table′ : List ℕ} {x y : ℕ} {v x′ y′ : Truth}
-      → TruthPut table k v table′ → v ≡ f x′ y′ → x′ ≡ truthIn table x → y′ ≡ truthIn table y
+  -- a view of its truth
+  last-view : (view : Truth → View) (b : Bool)
+      → view (truthIn table (slotOf slots (cond b (key .first) (key .second)))) ≡ cond b (view X) (view Y)
+  last-view view true = refl
+  last-view view false = refl
+
+  -- a connective
+  pub judged-joined : 2 ≤ key .word → key .word ≤ 5 → {s : Signs} → Signed (key .word) s → {table′ : List ℕ} {x z : ℕ} {v x′ z′ : Truth}
+      → TruthPut table k v table′ → v ≡ joinedTruth s x′ z′ → x′ ≡ truthIn table x → z′ ≡ truthIn table z
       → (Roomy table (slotOf slots (key .first)) → x ≡ slotOf slots (key .first))
-      → (Roomy table (slotOf slots (key .second)) → y ≡ slotOf slots (key .second)) → JudgedNext key slots places h g t k table table′
-  judged-two f two judged {v = v} put e xe ye at-x at-y = judged-put v put (λ room.
-      subst (Judged key places h g t X Y) (sym (e ∙ ap₂ f
-      (xe ∙ ap (λ (i : ℕ). truthIn table i) (at-x (room _ (first-part (omega arith)))))
-      (ye ∙ ap (λ (i : ℕ). truthIn table i) (at-y (room _ (second-part two)))))) judged)
+      → (Roomy table (slotOf slots (lastPart key)) → z ≡ slotOf slots (lastPart key)) → JudgedNext key slots places h g t k table table′
+  judged-joined two five {s} signed {v = v} put e xe ze at-x at-z = judged-put v put (λ room.
+      subst (Judged key places h g t X Y) (sym (e ∙ ap₂ (joinedTruth s)
+      (xe ∙ ap (λ (i : ℕ). truthIn table i) (at-x (room _ (first-part two))))
+      (ze ∙ ap (λ (i : ℕ). truthIn table i) (at-z (room _ (last-part two)))))) (record {
+        first = of-joined key places (firstOf X) (firstOf Y) h t two five signed _ (last-view firstOf (eqb (key .word) 2));
+        second = of-joined key places (secondOf X) (secondOf Y) g t two five signed _ (last-view secondOf (eqb (key .word) 2));
+      }))
 
 -- ---- the formulas of a good body
 
@@ -207,7 +239,22 @@ module _ (b : Body) (i : ℕ) where
 part-earlier : {b : Body} {table : List ℕ} → Formulas b table → (i : ℕ) → i < length (b .nodes) → (p : ℕ) → PartOf (recordFrom (nodeAt table i)) p → p < i
 part-earlier {b} g i l = each-node g (λ r A. (p : ℕ) → PartOf r p → p < i) i l (parts-earlier b i)
 
-module _ {b : Body} {table : List ℕ} (g : Formulas b table) (places : List ℕ) (at : ℕ → View) (h t n h′ t′ : ℕ) (pair : Pair places h t n h′ t′) where
+-- what is true of one is true of the other
+abbrev Below : Bool → Bool → Type 0
+Below c a = c ≡ true → a ≡ true
+
+and-below : (a c : Bool) → Below c a → (a && c) ≡ c
+and-below true c f = refl
+and-below false true f = f refl
+and-below false false f = refl
+
+not-below : (a c : Bool) → Below c a → (not a && not c) ≡ not a
+not-below true c f = refl
+not-below false true f = absurd (false≢true (f refl))
+not-below false false f = refl
+
+module _ {b : Body} {table : List ℕ} (g : Formulas b table) (places : List ℕ) (at : ℕ → View) (h t n h′ t′ : ℕ) (pair : Pair places h t n h′ t′)
+    (inside : Included h t) where
   -- the digits of a formula are its truths in pair n
   abbrev DigitsRight : ℕ → Type 0
   DigitsRight p =
@@ -218,6 +265,10 @@ module _ {b : Body} {table : List ℕ} (g : Formulas b table) (places : List ℕ
   Judges r A =
       (judgedHere r places h (at (r .first)) (at (r .second)) n ≡ holdsIn h′ t′ A)
       × (judgedThere r places t (at (r .first)) (at (r .second)) n ≡ holdsIn t′ t′ A)
+
+  -- a formula that holds in the pair holds in its greater set
+  holds : (A : Formula) → Below (holdsIn h′ t′ A) (holdsIn t′ t′ A)
+  holds = pair-persists pair inside
 
   module _ (i : ℕ) where
     -- a connective of two operands
@@ -230,22 +281,22 @@ module _ {b : Body} {table : List ℕ} (g : Formulas b table) (places : List ℕ
     -- the formula of a node has them if its operands have
     node-right : (m : Node) → refersAhead (beforeNode b i) m ≡ false → ((p : ℕ) → PartOf (recordFrom (nodeRecord m)) p → p < i → DigitsRight p)
         → Judges (recordFrom (nodeRecord m)) (formulaOf (formulasOf (b .nodes)) m)
-    unfolding byWord holdsIn judgedHere judgedThere
+    unfolding byWord made holdsIn judgedHere judgedThere
     node-right Node.bot e parts = (refl, refl)
     node-right (Node.atom k) e parts =
         let l : k < 64 = omega (arith, leb-false (b .atoms) k e, good-held (g .good) .few-atoms) in
         (sym (pair .here k l), sym (pair .there k l))
     node-right (Node.not p) e parts =
         let x = parts p (first-part (omega arith)) (earlier b i (p ∷ []) e p (List·Memᴰ·head refl)) in
-        (ap not (x .1), ap not (x .1))
+        (ap₂ (λ (a c : Bool). not a && not c) (x .1) (x .0) ∙ not-below _ _ (holds (decodedAt (b .nodes) p)), ap not (x .1))
     node-right (Node.and p q) e parts =
         let x = parts p (first-part (omega arith)) (earlier b i (p ∷ q ∷ []) e p (List·Memᴰ·head refl)) in
         let y = parts q (second-part (omega arith)) (earlier b i (p ∷ q ∷ []) e q (List·Memᴰ·tail (List·Memᴰ·head refl))) in
-        (two (λ a b c d. c && d) p q x y, two (λ a b c d. a && b) p q x y)
+        (two (λ a b c d. (a && b) && (c && d)) p q x y ∙ and-below _ _ (holds (conj (decodedAt (b .nodes) p) (decodedAt (b .nodes) q))), two (λ a b c d. a && b) p q x y)
     node-right (Node.or p q) e parts =
         let x = parts p (first-part (omega arith)) (earlier b i (p ∷ q ∷ []) e p (List·Memᴰ·head refl)) in
         let y = parts q (second-part (omega arith)) (earlier b i (p ∷ q ∷ []) e q (List·Memᴰ·tail (List·Memᴰ·head refl))) in
-        (two (λ a b c d. c || d) p q x y, two (λ a b c d. a || b) p q x y)
+        (two (λ a b c d. (a || b) && (c || d)) p q x y ∙ and-below _ _ (holds (disj (decodedAt (b .nodes) p) (decodedAt (b .nodes) q))), two (λ a b c d. a || b) p q x y)
     node-right (Node.imp p q) e parts =
         let x = parts p (first-part (omega arith)) (earlier b i (p ∷ q ∷ []) e p (List·Memᴰ·head refl)) in
         let y = parts q (second-part (omega arith)) (earlier b i (p ∷ q ∷ []) e q (List·Memᴰ·tail (List·Memᴰ·head refl))) in
@@ -271,7 +322,7 @@ pub record JudgedFrom (formulas list slots places : List ℕ) (h g t : ℕ) (tab
   pub within : k ≤ length list
   pub long : length table ≡ length table₀
   pub right :
-      (b : Body) → Ready b formulas list slots → truthWords * length list ≤ length table₀
+      (b : Body) → Ready b formulas list slots → truthWords * length list ≤ length table₀ → Included h t → Included g t
       → (x : ℕ) → x ∈ drop k list → Right b places h g t x (truthIn table (slotOf slots x))
 
 module _ (formulas list slots places : List ℕ) (h g t : ℕ) (table₀ : List ℕ) where
@@ -279,7 +330,7 @@ module _ (formulas list slots places : List ℕ) (h g t : ℕ) (table₀ : List 
   judged-none = record {
     within = omega arith;
     long = refl;
-    right = λ b r m x i. absurd (List·Memᴰ·not-nil (subst (λ (xs : List ℕ). x ∈ xs) (drop-length list) i));
+    right = λ b r m u v x i. absurd (List·Memᴰ·not-nil (subst (λ (xs : List ℕ). x ∈ xs) (drop-length list) i));
   }
 
   -- the one before it too
@@ -292,12 +343,13 @@ module _ (formulas list slots places : List ℕ) (h g t : ℕ) (table₀ : List 
     after : (x : ℕ) → x ∈ drop (suc j) list → x ∈ drop k list
     after x m = let next : suc j ≡ k = omega arith in subst (λ (z : ℕ). x ∈ drop z list) next m
 
-    module _ (b : Body) (ready : Ready b formulas list slots) (room : truthWords * length list ≤ length table₀) where
+    module _ (b : Body) (ready : Ready b formulas list slots) (room : truthWords * length list ≤ length table₀) (in-h : Included h t)
+        (in-g : Included g t) where
       -- what was judged before
       later : (x : ℕ) → x ∈ drop (suc j) list → Right b places h g t x (truthIn table′ (slotOf slots x))
       later x m =
           let slot = slot-after ready k x (after x m) in
-          subst (Right b places h g t x) (sym (judged .others (slotOf slots x) (λ same. omega (arith, slot .0)))) (s .right b ready room x (after x m))
+          subst (Right b places h g t x) (sym (judged .others (slotOf slots x) (λ same. omega (arith, slot .0)))) (s .right b ready room in-h in-g x (after x m))
 
       module _ (i : ℕ) (is : i ≡ getD list j 0) where
         its′ : key ≡ recordFrom (nodeAt formulas i)
@@ -318,12 +370,12 @@ module _ (formulas list slots places : List ℕ) (h g t : ℕ) (table₀ : List 
         digits = judged .own (λ p part. roomy p (subst (λ (r : NodeRecord). PartOf r p) its′ part))
 
         -- with one smaller set
-        seen : (view : Truth → View) (h : ℕ) → ((p : ℕ) → p ∈ drop k list → Seen b places h t p (view (truthIn table (slotOf slots p))))
+        seen : (view : Truth → View) (h : ℕ) → Included h t → ((p : ℕ) → p ∈ drop k list → Seen b places h t p (view (truthIn table (slotOf slots p))))
             → JudgedSeen key places h t (view (truthIn table (slotOf slots (key .first)))) (view (truthIn table (slotOf slots (key .second))))
             (view (truthIn table′ j))
             → Seen b places h t i (view (truthIn table′ j))
-        seen view h parts own n l h′ t′ pair =
-            let right = node-judged (ready .held) places (λ p. view (truthIn table (slotOf slots p))) h t n h′ t′ pair i known
+        seen view h inside parts own n l h′ t′ pair =
+            let right = node-judged (ready .held) places (λ p. view (truthIn table (slotOf slots p))) h t n h′ t′ pair inside i known
             (λ p part. parts p (listed p part) n l h′ t′ pair) in
             let one = subst (λ (r : NodeRecord). JudgedSeen r places h t (view (truthIn table (slotOf slots (r .first))))
             (view (truthIn table (slotOf slots (r .second)))) (view (truthIn table′ j))) its′ own n l in
@@ -332,16 +384,16 @@ module _ (formulas list slots places : List ℕ) (h g t : ℕ) (table₀ : List 
         -- the formula itself
         own : Right b places h g t i (truthIn table′ (slotOf slots i))
         own = subst (λ (k : ℕ). Right b places h g t i (truthIn table′ k)) (sym (ap (slotOf slots) is ∙ ready .placed j low)) (record {
-          first = seen firstOf h (λ p m. s .right b ready room p m .first) (digits .first);
-          second = seen secondOf g (λ p m. s .right b ready room p m .second) (digits .second);
+          first = seen firstOf h in-h (λ p m. s .right b ready room in-h in-g p m .first) (digits .first);
+          second = seen secondOf g in-g (λ p m. s .right b ready room in-h in-g p m .second) (digits .second);
         })
 
     pub judged-next : JudgedFrom formulas list slots places h g t table₀ table′ j
     judged-next = record {
       within = omega (arith, s .within);
       long = judged .long ∙ s .long;
-      right = λ b ready room x m.
-          ⊎-elim (own b ready room x) (later b ready room x)
+      right = λ b ready room in-h in-g x m.
+          ⊎-elim (own b ready room in-h in-g x) (later b ready room in-h in-g x)
           (List·Memᴰ·cases-cons (subst (λ (xs : List ℕ). x ∈ xs) (drop-cons list j 0 low) m));
     }
 
@@ -349,7 +401,7 @@ module _ (formulas list slots places : List ℕ) (h g t : ℕ) (table₀ : List 
       → JudgedAll formulas list slots places h g t table₀ table
   judged-whole s e = record {
     long = s .long;
-    right = λ b r m x i. s .right b r m x (subst (λ (z : ℕ). x ∈ drop z list) (sym e) i);
+    right = λ b r m u v x i. s .right b r m u v x (subst (λ (z : ℕ). x ∈ drop z list) (sym e) i);
   }
 
   -- there is no room for the list

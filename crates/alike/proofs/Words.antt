@@ -1,19 +1,27 @@
--- Words by their digits: one with any given digits exists, so each of the 256 pairs is a pair of sets of atoms; and the words of two truths
--- are the same exactly if the formulas hold alike in all 256. Numbers by their digits in base three.
+-- Words by their digits: one with any given digits exists, so each of the 256 pairs is a pair of sets of atoms, the smaller inside the
+-- greater; and the words of two truths are the same exactly if the formulas hold alike in all 256. Numbers by their digits in base three.
 use Prim.Native.Nat.{ℕ, zero, suc, _+_, _*_, _/_, _%_, _^_, _<_}
 use native.Mathlib.Nat.{pow-suc}
 use native.Mathlib.Omega.{arith}
-use mathlib.Core.Bool.{Bool, true, false}
+use mathlib.Core.Bool.{Bool, true, false, cond}
 use mathlib.Core.List.{List}
 use mathlib.Core.Logic.{_↔_}
 use mathlib.Core.Path.{_≡_, refl, sym, ap, subst, _∙_}
-use lib.Dec.{eqb}
+use borrow.Author.Tests.{lt-ltb, eqb-true}
+use lib.Dec.{eqb, ltb}
 use lib.ListN.{getD}
+use Rattle.equilibrium.specs.Formula.{Formula}
+use Rattle.equilibrium.specs.Meaning.{_⊆_}
+use Rattle.equilibrium.proofs.Satisfaction.{persists}
 use Rattle.format.specs.File.{Body}
-use Rattle.atomset.specs.AtomSet.{has}
+use Rattle.atomset.specs.AtomSet.{has, Included, members}
+use Rattle.atomset.proofs.Membership.{member-lt}
+use Rattle.atomset.proofs.Members.{member-members}
+use Rattle.pairs.specs.Pairs.{holdsIn}
+use Rattle.pairs.proofs.Pairs.{holds-in-iff}
 use Rattle.alike.specs.Blocks.{SameWords, hereIn, alsoIn, truthIn}
 use Rattle.alike.specs.declared.blocks.Block.{Block}
-use Rattle.alike.specs.Truths.{third, hereAt, thereAt, placeOf, View, slotOf, Pair, Seen, Right}
+use Rattle.alike.specs.Truths.{innerPlaces, third, hereAt, thereAt, placeOf, View, slotOf, Pair, Seen, Right}
 use Rattle.alike.specs.Survivors.{SameHere, AlikeAt}
 use Rattle.alike.proofs.BlockDigits.{Small, same-digits, here-small, also-small}
 
@@ -83,6 +91,31 @@ module _ (places : List ℕ) (h t n : ℕ) where
     here = word-of 64 heres .digits;
     there = word-of 64 theres .digits;
   }
+
+-- a place of the smaller set of pair n is one of the greater set
+here-there : (h t : ℕ) → Included h t → (s n : ℕ) → hereAt h s n ≡ true → thereAt t s n ≡ true
+unfolding hereAt thereAt
+here-there h t inside s n = by (ltb s innerPlaces)
+  where
+    by : (b : Bool) → cond b (eqb (third n s) 2) (has h s) ≡ true → cond b (ltb 0 (third n s)) (has t s) ≡ true
+    by true e = lt-ltb 0 (third n s) (omega (arith, eqb-true (third n s) 2 e))
+    by false e = inside s e
+
+-- and so of its sets of atoms
+pub pair-inside : {places : List ℕ} {h t n h′ t′ : ℕ} → Pair places h t n h′ t′ → Included h t → members h′ ⊆ members t′
+pair-inside {places} {h} {t} {n} {h′} {t′} pair inside p m =
+    let here = member-members h′ (pair .here-small) p .1 m in
+    let low = member-lt 64 h′ p (pair .here-small) here in
+    member-members t′ (pair .there-small) p .0
+    (pair .there p low ∙ here-there h t inside (placeOf places p) n (sym (pair .here p low) ∙ here))
+
+-- what holds in such a pair holds in its greater set
+pub pair-persists : {places : List ℕ} {h t n h′ t′ : ℕ} → Pair places h t n h′ t′ → Included h t → (A : Formula) → holdsIn h′ t′ A ≡ true
+    → holdsIn t′ t′ A ≡ true
+pair-persists {h′ = h′} {t′} pair inside A e =
+    let there = member-members t′ (pair .there-small) in
+    holds-in-iff A t′ t′ there there .1
+    (persists (pair-inside pair inside) A (holds-in-iff A h′ t′ (member-members h′ (pair .here-small)) there .0 e))
 
 -- the same words for both exactly if they hold alike, with one smaller set
 seen-iff : (b : Body) (places : List ℕ) (h t a x : ℕ) (u v : View) → Seen b places h t a u → Seen b places h t x v → Small (u .here) → Small (v .here)

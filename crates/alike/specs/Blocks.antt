@@ -1,12 +1,13 @@
--- A digit for each of 256 pairs, in the four words of a block; truths as two blocks, and a table of them.
-use Prim.Native.Nat.{ℕ, zero, suc, _+_, _-_, _*_, _/_, _%_, _^_, _≤_}
+-- A digit for each of 256 pairs, in the four words of a block; truths as three blocks, and a table of them.
+use Prim.Native.Nat.{ℕ, zero, suc, _+_, _*_, _/_, _%_, _≤_}
 use mathlib.Core.Bool.{Bool}
 use mathlib.Core.List.{List, [], _∷_}
 use mathlib.Core.Path.{_≡_}
-use lib.Bits.{bitAnd, bitOr}
+use lib.Bits.{bitAnd, bitXor}
 use lib.ListN.{length, getD}
 use Rattle.atomset.specs.AtomSet.{has}
 use Rattle.alike.specs.declared.blocks.Block.{Block}
+use Rattle.alike.specs.declared.blocks.Signs.{Signs}
 use Rattle.alike.specs.declared.blocks.Truth.{Truth}
 
 -- how many pairs have a digit in a block
@@ -42,28 +43,24 @@ allOf w = record { w0 = w; w1 = w; w2 = w; w3 = w }
 abbrev pub bothOf : Block → Block → Block
 bothOf x y = record { w0 = bitAnd (x .w0) (y .w0); w1 = bitAnd (x .w1) (y .w1); w2 = bitAnd (x .w2) (y .w2); w3 = bitAnd (x .w3) (y .w3) }
 
-abbrev pub eitherOf : Block → Block → Block
-eitherOf x y = record { w0 = bitOr (x .w0) (y .w0); w1 = bitOr (x .w1) (y .w1); w2 = bitOr (x .w2) (y .w2); w3 = bitOr (x .w3) (y .w3) }
+-- a conjunction of two words, with its parts and the whole turned at the digits of the signs
+abbrev pub joinedWord : Signs → ℕ → ℕ → ℕ
+joinedWord s x y = bitXor (bitAnd (bitXor x (s .first)) (bitXor y (s .second))) (s .whole)
 
-abbrev pub notOf : Block → Block
-notOf x = record { w0 = (2 ^ 64 - 1) - x .w0; w1 = (2 ^ 64 - 1) - x .w1; w2 = (2 ^ 64 - 1) - x .w2; w3 = (2 ^ 64 - 1) - x .w3 }
+abbrev pub joinedOf : Signs → Block → Block → Block
+joinedOf s x y = record {
+  w0 = joinedWord s (x .w0) (y .w0);
+  w1 = joinedWord s (x .w1) (y .w1);
+  w2 = joinedWord s (x .w2) (y .w2);
+  w3 = joinedWord s (x .w3) (y .w3);
+}
 
--- ---- truths of connectives, by those of the parts
-
-abbrev pub negationOf : Truth → Truth
-negationOf x = record { here = notOf (x .there); also = notOf (x .there); there = notOf (x .there) }
-
-abbrev pub conjunctionOf : Truth → Truth → Truth
-conjunctionOf x y = record { here = bothOf (x .here) (y .here); also = bothOf (x .also) (y .also); there = bothOf (x .there) (y .there) }
-
-abbrev pub disjunctionOf : Truth → Truth → Truth
-disjunctionOf x y = record { here = eitherOf (x .here) (y .here); also = eitherOf (x .also) (y .also); there = eitherOf (x .there) (y .there) }
-
-abbrev pub implicationOf : Truth → Truth → Truth
-implicationOf x y = record {
-  here = bothOf (eitherOf (notOf (x .there)) (y .there)) (eitherOf (notOf (x .here)) (y .here));
-  also = bothOf (eitherOf (notOf (x .there)) (y .there)) (eitherOf (notOf (x .also)) (y .also));
-  there = eitherOf (notOf (x .there)) (y .there);
+-- so joined in each pair, and in a smaller set only where it is so in the greater one
+abbrev pub joinedTruth : Signs → Truth → Truth → Truth
+joinedTruth s x y = record {
+  here = bothOf (joinedOf s (x .there) (y .there)) (joinedOf s (x .here) (y .here));
+  also = bothOf (joinedOf s (x .there) (y .there)) (joinedOf s (x .also) (y .also));
+  there = joinedOf s (x .there) (y .there);
 }
 
 -- ---- a table of truths

@@ -1,14 +1,14 @@
 -- The truth of formulas in 256 pairs at once. Pair n of the 256 gives the places 0 to 4 what the digits of n in base three say, and all
 -- pairs have one h and t for the places from 5 on.
 use Prim.Native.Nat.{ℕ, zero, suc, _*_, _/_, _%_, _^_, _≤_, _<_}
-use mathlib.Core.Bool.{Bool, cond, not, _&&_, _||_}
+use mathlib.Core.Bool.{Bool, false, cond, not, _&&_, _||_}
 use mathlib.Core.List.{List}
 use mathlib.Core.Path.{_≡_}
-use lib.Dec.{eqb, ltb}
+use lib.Dec.{eqb, leb, ltb}
 use lib.ListN.{length, getD}
 use Rattle.equilibrium.specs.Meaning.{_∈_}
 use Rattle.format.specs.File.{Body, decodedAt}
-use Rattle.atomset.specs.AtomSet.{has}
+use Rattle.atomset.specs.AtomSet.{has, Included}
 use Rattle.tables.specs.Holding.{Formulas}
 use Rattle.tables.specs.declared.records.NodeRecord.{NodeRecord}
 use Rattle.pairs.specs.Pairs.{holdsIn}
@@ -16,6 +16,7 @@ use Rattle.pairs.specs.Truths.{byWord}
 use Rattle.alike.specs.Blocks.{pairsAtOnce, digit, truthWords, truthIn, Roomy}
 use Rattle.alike.specs.Under.{PartOf, PartsAfter}
 use Rattle.alike.specs.declared.blocks.Block.{Block}
+use Rattle.alike.specs.declared.blocks.Signs.{Signs}
 use Rattle.alike.specs.declared.blocks.Truth.{Truth}
 
 -- how many places go through all that they can be in one block
@@ -58,20 +59,31 @@ pub record PlaceTruth (place h g t : ℕ) (v : Truth) : Type 0 where
   pub first : PlaceSeen place h t (firstOf v)
   pub second : PlaceSeen place g t (secondOf v)
 
--- the truth in (t,t) of pair n, and in the pair itself, of the formula of a record, where x and y are the truths of its parts
+-- what a connective makes of the truths of its parts, a negation of the first alone
+unfoldable pub made : ℕ → Bool → Bool → Bool
+made word A B = byWord word false (not A) (A && B) (A || B) (not A || B)
+
+-- The truth in (t,t) of pair n of the formula of a record, where x and y are the truths of its parts; and in the pair itself, where a
+-- formula holds if it holds in (t,t) and its connective makes it so of the parts' truths in the pair.
 unfoldable pub judgedThere : NodeRecord → List ℕ → ℕ → View → View → ℕ → Bool
 judgedThere r places t x y n =
-    let A = digit (x .there) n in
-    let B = digit (y .there) n in
-    byWord (r .word) (thereAt t (placeOf places (r .first)) n) (not A) (A && B) (A || B) (not A || B)
+    cond (eqb (r .word) 1) (thereAt t (placeOf places (r .first)) n) (made (r .word) (digit (x .there) n) (digit (y .there) n))
 
 unfoldable pub judgedHere : NodeRecord → List ℕ → ℕ → View → View → ℕ → Bool
 judgedHere r places h x y n =
-    let A = digit (x .there) n in
-    let B = digit (y .there) n in
-    let C = digit (x .here) n in
-    let D = digit (y .here) n in
-    byWord (r .word) (hereAt h (placeOf places (r .first)) n) (not A) (C && D) (C || D) ((not A || B) && (not C || D))
+    cond (eqb (r .word) 1) (hereAt h (placeOf places (r .first)) n)
+    (made (r .word) (digit (x .there) n) (digit (y .there) n) && made (r .word) (digit (x .here) n) (digit (y .here) n))
+
+-- The signs of a connective, as a conjunction: A|B is ~(~A&~B), A->B is ~(A&~B), and ~A is ~(A&A). A word of ones turns what it stands
+-- for.
+pub record Signed (word : ℕ) (s : Signs) : Type 0 where
+  pub first : (i : ℕ) → i < 64 → has (s .first) i ≡ eqb word 4
+  pub second : (i : ℕ) → i < 64 → has (s .second) i ≡ leb 4 word
+  pub whole : (i : ℕ) → i < 64 → has (s .whole) i ≡ not (eqb word 3)
+
+-- the last part of a formula: its second, or the first where it has one alone
+abbrev pub lastPart : NodeRecord → ℕ
+lastPart r = cond (eqb (r .word) 2) (r .first) (r .second)
 
 -- a truth says so of all pairs
 abbrev pub JudgedSeen : NodeRecord → List ℕ → ℕ → ℕ → View → View → View → Type 0
@@ -119,9 +131,9 @@ pub record Ready (b : Body) (formulas list slots : List ℕ) : Type 0 where
   pub ordered : PartsAfter formulas list
   pub placed : (k : ℕ) → k < length list → slotOf slots (getD list k 0) ≡ k
 
--- the table keeps its length; where it has room for such a list, it has the truths of the formulas there
+-- the table keeps its length; where it has room for such a list, it has the truths of the formulas there in pairs (h,t) and (g,t)
 pub record JudgedAll (formulas list slots places : List ℕ) (h g t : ℕ) (table table′ : List ℕ) : Type 0 where
   pub long : length table′ ≡ length table
   pub right :
-      (b : Body) → Ready b formulas list slots → truthWords * length list ≤ length table
+      (b : Body) → Ready b formulas list slots → truthWords * length list ≤ length table → Included h t → Included g t
       → (i : ℕ) → i ∈ list → Right b places h g t i (truthIn table′ (slotOf slots i))

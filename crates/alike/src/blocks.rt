@@ -6,8 +6,7 @@ ghost use mathlib.Core.Bool.{true};
 ghost use mathlib.Core.Path.{_≡_};
 ghost use lib.ListN.{length};
 ghost use lib.Seq.{sets};
-ghost use Rattle.alike.specs.Blocks.{wordsOf, allOf, bothOf, eitherOf, notOf, SameWords};
-ghost use Rattle.alike.specs.Blocks.{negationOf, conjunctionOf, disjunctionOf, implicationOf, hereIn, alsoIn, truthIn, Roomy, TruthPut};
+ghost use Rattle.alike.specs.Blocks.{wordsOf, allOf, bothOf, SameWords, joinedOf, joinedTruth, hereIn, alsoIn, truthIn, Roomy, TruthPut};
 use known::index::note;
 
 // Digit n of a block is digit n % 64 of word n / 64.
@@ -24,6 +23,13 @@ pub(crate) struct Truth {
     pub here: Block,
     pub also: Block,
     pub there: Block,
+}
+
+// What turns a conjunction into another connective: ones where its first part, its second part and the whole are denied, else zeros.
+pub(crate) struct Signs {
+    pub first: u64,
+    pub second: u64,
+    pub whole: u64,
 }
 
 // The words of a truth.
@@ -52,32 +58,16 @@ fn both(x: Block, y: Block) -> Block
     }
 }
 
-fn either(x: Block, y: Block) -> Block
-    ensures { λ r. ⌜ r ≡ eitherOf x y ⌝ }
+// Two blocks joined as the parts of a conjunction, with the parts and the whole turned by the signs.
+fn joined(x: Block, y: Block, signs: Signs) -> Block
+    ensures { λ r. ⌜ r ≡ joinedOf signs x y ⌝ }
 {
     Block {
-        w0: x.w0 | y.w0,
-        w1: x.w1 | y.w1,
-        w2: x.w2 | y.w2,
-        w3: x.w3 | y.w3,
+        w0: ((x.w0 ^ signs.first) & (y.w0 ^ signs.second)) ^ signs.whole,
+        w1: ((x.w1 ^ signs.first) & (y.w1 ^ signs.second)) ^ signs.whole,
+        w2: ((x.w2 ^ signs.first) & (y.w2 ^ signs.second)) ^ signs.whole,
+        w3: ((x.w3 ^ signs.first) & (y.w3 ^ signs.second)) ^ signs.whole,
     }
-}
-
-fn neither(x: Block) -> Block
-    ensures { λ r. ⌜ r ≡ notOf x ⌝ }
-{
-    Block {
-        w0: !x.w0,
-        w1: !x.w1,
-        w2: !x.w2,
-        w3: !x.w3,
-    }
-}
-
-fn implied(x: Block, y: Block) -> Block
-    ensures { λ r. ⌜ r ≡ eitherOf (notOf x) y ⌝ }
-{
-    either(neither(x), y)
 }
 
 // Whether two blocks have the same words.
@@ -106,47 +96,14 @@ pub(crate) fn same_both(x: Block, y: Block, z: Block, w: Block) -> bool
     same(z, w)
 }
 
-// The truth of a negation, and of the three other connectives, by that of the parts.
-pub(crate) fn negation(x: Truth) -> Truth
-    ensures { λ r. ⌜ r ≡ negationOf x ⌝ }
+// Two truths so joined. What holds in a pair (h,t) holds in (t,t).
+pub(crate) fn joined_truth(x: Truth, y: Truth, signs: Signs) -> Truth
+    ensures { λ r. ⌜ r ≡ joinedTruth signs x y ⌝ }
 {
-    let not = neither(x.there);
+    let there = joined(x.there, y.there, signs);
     Truth {
-        here: not,
-        also: not,
-        there: not,
-    }
-}
-
-pub(crate) fn conjunction(x: Truth, y: Truth) -> Truth
-    ensures { λ r. ⌜ r ≡ conjunctionOf x y ⌝ }
-{
-    Truth {
-        here: both(x.here, y.here),
-        also: both(x.also, y.also),
-        there: both(x.there, y.there),
-    }
-}
-
-pub(crate) fn disjunction(x: Truth, y: Truth) -> Truth
-    ensures { λ r. ⌜ r ≡ disjunctionOf x y ⌝ }
-{
-    Truth {
-        here: either(x.here, y.here),
-        also: either(x.also, y.also),
-        there: either(x.there, y.there),
-    }
-}
-
-pub(crate) fn implication(x: Truth, y: Truth) -> Truth
-    ensures { λ r. ⌜ r ≡ implicationOf x y ⌝ }
-{
-    let here = implied(x.here, y.here);
-    let also = implied(x.also, y.also);
-    let there = implied(x.there, y.there);
-    Truth {
-        here: both(there, here),
-        also: both(there, also),
+        here: both(there, joined(x.here, y.here, signs)),
+        also: both(there, joined(x.also, y.also, signs)),
         there,
     }
 }

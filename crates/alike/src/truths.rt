@@ -7,15 +7,13 @@ ghost use Prim.Native.Nat.{ℕ, _<_};
 ghost use mathlib.Core.Path.{_≡_};
 ghost use Rattle.atomset.specs.AtomSet.{has};
 ghost use Rattle.alike.specs.Blocks.{pairsAtOnce, digit, Roomy};
-ghost use Rattle.alike.specs.Truths.{slotOf, PlaceTruth, JudgedNext, JudgedAll};
+ghost use Rattle.alike.specs.Truths.{slotOf, PlaceTruth, Signed, lastPart, JudgedNext, JudgedAll};
 use crate::blocks::Block;
+use crate::blocks::Signs;
 use crate::blocks::TRUTH_WORDS;
 use crate::blocks::Truth;
 use crate::blocks::all_of_one;
-use crate::blocks::conjunction;
-use crate::blocks::disjunction;
-use crate::blocks::implication;
-use crate::blocks::negation;
+use crate::blocks::joined_truth;
 use crate::blocks::put_truth;
 use crate::blocks::truth_in;
 use atomset::contains;
@@ -29,14 +27,21 @@ use tables::records::OR;
 use tables::records::node;
 use tables::records::wide;
 
-// A block of nothing but ones if the set has the place, and else of zeros.
+// A word of nothing but ones if so, and else of zeros.
+fn ones_if(yes: bool) -> u64
+    ensures { λ r. ⌜ ((i : ℕ) → i < 64 → has r i ≡ yes) ⌝ }
+{
+    if yes {
+        return 0xFFFFFFFFFFFFFFFF;
+    }
+    0
+}
+
+// A block of such words, by whether the set has the place.
 fn spread(set: u64, place: u64) -> Block
     ensures { λ r. ⌜ ((n : ℕ) → n < pairsAtOnce → digit r n ≡ has set place) ⌝ }
 {
-    if contains(set, place as usize) {
-        return all_of_one(0xFFFFFFFFFFFFFFFF);
-    }
-    all_of_one(0)
+    all_of_one(ones_if(contains(set, place as usize)))
 }
 
 // The truth with one block for both smaller sets.
@@ -163,8 +168,29 @@ fn slot_within(slots: &[u16], formula: usize, rooms: usize) -> usize
     slot
 }
 
-// Puts the truth of the formula of a record at slot k, by that of its parts. Each connective is read, judged and written by itself: with
-// one writing for all, the compiler takes one word at a time.
+// The signs of a connective.
+fn signs_of(connective: u16) -> Signs
+    ensures { λ r. ⌜ Signed connective r ⌝ }
+{
+    Signs {
+        first: ones_if(connective == OR),
+        second: ones_if(OR <= connective),
+        whole: ones_if(connective != AND),
+    }
+}
+
+// The last part of a formula: a negation has one alone.
+fn last_part(key: NodeRecord) -> u16
+    ensures { λ r. ⌜ r ≡ lastPart key ⌝ }
+{
+    if key.word == NOT {
+        return key.first;
+    }
+    key.second
+}
+
+// Puts the truth of the formula of a record at slot k, by that of its parts. All connectives take one way: jumps by the connective are
+// guessed wrong so often that they take as long as all else.
 fn judge(
     key: NodeRecord,
     slots: &[u16],
@@ -178,39 +204,7 @@ fn judge(
     requires { ⌜ Roomy (now table) k ⌝ }
     ensures { λ _. ⌜ JudgedNext key (now (slots .entry)) (now (places .entry)) h g t k (now (table .entry)) (now (table .exit)) ⌝ }
 {
-    let operator = key.word;
-    let rooms = table.len() / TRUTH_WORDS;
-    let x = slot_within(slots, wide(key.first), rooms);
-    let y = slot_within(slots, wide(key.second), rooms);
-    if operator == AND {
-        put_truth(
-            table,
-            k,
-            conjunction(truth_in(table, x), truth_in(table, y)),
-        );
-        return;
-    }
-    if operator == OR {
-        put_truth(
-            table,
-            k,
-            disjunction(truth_in(table, x), truth_in(table, y)),
-        );
-        return;
-    }
-    if operator == IMP {
-        put_truth(
-            table,
-            k,
-            implication(truth_in(table, x), truth_in(table, y)),
-        );
-        return;
-    }
-    if operator == NOT {
-        put_truth(table, k, negation(truth_in(table, x)));
-        return;
-    }
-    if operator == ATOM {
+    if key.word == ATOM {
         put_truth(
             table,
             k,
@@ -218,15 +212,17 @@ fn judge(
         );
         return;
     }
-    let none = all_of_one(0);
+    if key.word < NOT || IMP < key.word {
+        put_truth(table, k, at_all(all_of_one(0), all_of_one(0)));
+        return;
+    }
+    let rooms = table.len() / TRUTH_WORDS;
+    let x = slot_within(slots, wide(key.first), rooms);
+    let y = slot_within(slots, wide(last_part(key)), rooms);
     put_truth(
         table,
         k,
-        Truth {
-            here: none,
-            also: none,
-            there: none,
-        },
+        joined_truth(truth_in(table, x), truth_in(table, y), signs_of(key.word)),
     );
 }
 

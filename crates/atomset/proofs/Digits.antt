@@ -2,13 +2,13 @@
 -- Words are natural numbers, and k is a word's width where one is needed. Assumes nothing.
 use mathlib.Core.Path.{_≡_, refl, sym, ap, _∙_}
 use mathlib.Core.Logic.{_⊎_, inl, inr}
-use mathlib.Core.Bool.{Bool, false, _||_, _&&_, not, true≢false, false≢true}
+use mathlib.Core.Bool.{Bool, false, _||_, _&&_, not, xor, true≢false, false≢true}
 use Prim.Native.Nat.{ℕ, zero, suc, _-_, _*_, _/_, _%_, _^_, _≤_, _<_, min, max}
 use native.Mathlib.Nat.{pow-suc, mul-comm, div-div-eq-div-mul, one-mul, mod-eq-of-lt}
 use native.Mathlib.Decide.{decLt}
 use native.Mathlib.Omega.{arith}
 use lib.Arith.{lt-one}
-use lib.Bits.{bitAnd, bitOr, and-step, or-step, and-mask}
+use lib.Bits.{bitAnd, bitOr, bitXor, differ, and-step, or-step, xor-step, and-mask}
 use lib.Dec.{eqb, eqb·zero-suc, eqb·suc-zero, eqb·suc-suc}
 use lib.Pow.{pow-pos, pow-lt}
 use Rattle.atomset.specs.AtomSet.{has}
@@ -36,6 +36,13 @@ min-and = each-two (λ (x y : ℕ). eqb (min x y) 1 ≡ (eqb x 1 && eqb y 1)) re
 max-or : (x y : ℕ) → x < 2 → y < 2 → eqb (max x y) 1 ≡ (eqb x 1 || eqb y 1)
 max-or = each-two (λ (x y : ℕ). eqb (max x y) 1 ≡ (eqb x 1 || eqb y 1)) refl refl refl refl
 
+differ-xor : (x y : ℕ) → x < 2 → y < 2 → eqb (differ x y) 1 ≡ xor (eqb x 1) (eqb y 1)
+unfolding xor
+differ-xor = each-two (λ (x y : ℕ). eqb (differ x y) 1 ≡ xor (eqb x 1) (eqb y 1)) refl refl refl refl
+
+differ-low : (x y : ℕ) → x < 2 → y < 2 → differ x y < 2
+differ-low = each-two (λ (x y : ℕ). differ x y < 2) (omega arith) (omega arith) (omega arith) (omega arith)
+
 one-less : (x : ℕ) → x < 2 → eqb (1 - x) 1 ≡ not (eqb x 1)
 one-less = each-digit (λ (x : ℕ). eqb (1 - x) 1 ≡ not (eqb x 1)) refl refl
 
@@ -57,6 +64,12 @@ or-half a b = omega (arith, or-step a b)
 or-low : (a b : ℕ) → bitOr a b % 2 ≡ max (a % 2) (b % 2)
 or-low a b = omega (arith, or-step a b)
 
+xor-half : (a b : ℕ) → bitXor a b / 2 ≡ bitXor (a / 2) (b / 2)
+xor-half a b = omega (arith, xor-step a b, differ-low (a % 2) (b % 2) (omega arith) (omega arith))
+
+xor-low : (a b : ℕ) → bitXor a b % 2 ≡ differ (a % 2) (b % 2)
+xor-low a b = omega (arith, xor-step a b, differ-low (a % 2) (b % 2) (omega arith) (omega arith))
+
 not-half : (k a : ℕ) → a < 2 ^ suc k → ((2 ^ suc k - 1) - a) / 2 ≡ (2 ^ k - 1) - a / 2
 not-half k a h = omega (arith, pow-suc 2 k, pow-pos k)
 
@@ -72,6 +85,11 @@ pub has-or : (a b i : ℕ) → has (bitOr a b) i ≡ (has a i || has b i)
 unfolding has
 has-or a b zero = ap (λ (x : ℕ). eqb x 1) (or-low a b) ∙ max-or (a % 2) (b % 2) (omega arith) (omega arith)
 has-or a b (suc i) = ap (λ (x : ℕ). has x i) (or-half a b) ∙ has-or (a / 2) (b / 2) i
+
+pub has-xor : (a b i : ℕ) → has (bitXor a b) i ≡ xor (has a i) (has b i)
+unfolding has
+has-xor a b zero = ap (λ (x : ℕ). eqb x 1) (xor-low a b) ∙ differ-xor (a % 2) (b % 2) (omega arith) (omega arith)
+has-xor a b (suc i) = ap (λ (x : ℕ). has x i) (xor-half a b) ∙ has-xor (a / 2) (b / 2) i
 
 -- `!a`
 pub has-not : (k a i : ℕ) → a < 2 ^ k → i < k → has ((2 ^ k - 1) - a) i ≡ not (has a i)

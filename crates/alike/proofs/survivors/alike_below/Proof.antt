@@ -89,12 +89,13 @@ loop-again c =
     let least = next .before in
     let test = least .before .before .before in
     let turn = test .before in
-    let args = turn .before .before .before .before .before .before .before .before .args in
+    let start = turn .before .before .before .before .before .before .before .before in
+    let args = start .args in
     let last = turn .loop .inv .0 in (
       last,
       turn .loop .inv .1,
       below-next (args .formulas .now) (args .list .now) (args .slots .now) (args .places .now) (args .t) (args .own) (args .side .now) (args .alive)
-          (args .table .now) (turn .loop .inv .2) (omega (arith, last, test .loop-test .taken)) _
+          (args .table .now) (omega (arith, start .pre)) (turn .loop .inv .2) (omega (arith, last, test .loop-test .taken)) _
           (least .less-of .ensures ∙ ap (λ (k : ℕ). min (turn .loop .n + 1) (k - 1)) last)
           _ _ (own .part-of2 .ensures) (next .part-of .ensures) (judged .judge-listed .ensures)
           (λ i. omega (arith, c .before .before .slice-known2 .given i)) _ (search needs) (c .still-alike .ensures),
