@@ -3,16 +3,16 @@ use Prim.Native.Nat.{ℕ, zero, suc, _+_, _-_, _*_, _/_, _%_, _^_, _≤_, _<_}
 use native.Mathlib.Decide.{decLt}
 use native.Mathlib.Nat.{add-zero}
 use native.Mathlib.Omega.{arith}
-use mathlib.Core.Bool.{Bool, false, _&&_, xor}
+use mathlib.Core.Bool.{Bool, false, _&&_, _||_, xor}
 use mathlib.Core.List.{List, [], _∷_, _++_}
 use mathlib.Core.Logic.{_⊎_, inl, inr, ⊎-elim, _↔_}
 use mathlib.Core.Path.{_≡_, refl, sym, ap, ap₂, subst, _∙_}
-use lib.Bits.{bitAnd, bitXor}
+use lib.Bits.{bitAnd, bitOr, bitXor}
 use lib.ListN.{length, getD, set, length-set}
 use lib.Seq.{getD-set-same, getD-set-other, sets, length-sets}
 use Rattle.atomset.specs.AtomSet.{has}
-use Rattle.atomset.proofs.Digits.{has-zero, has-and, has-xor, same-members}
-use Rattle.alike.specs.Blocks.{pairsAtOnce, wordOf, wordsOf, digit, SameWords, allOf, bothOf, joinedWord, joinedOf}
+use Rattle.atomset.proofs.Digits.{has-zero, has-and, has-or, has-xor, same-members}
+use Rattle.alike.specs.Blocks.{pairsAtOnce, wordOf, wordsOf, digit, SameWords, allOf, bothOf, joinedWord, joinedOf, raisedOf}
 use Rattle.alike.specs.Blocks.{truthWords, hereIn, alsoIn, thereIn, Roomy, TruthPut}
 use Rattle.alike.specs.declared.blocks.Block.{Block}
 use Rattle.alike.specs.declared.blocks.Signs.{Signs}
@@ -42,6 +42,16 @@ unfolding digit wordOf
 digit-both x y n = ap (λ (w : ℕ). has w (n % 64)) (words (n / 64)) ∙ has-and (wordOf x (n / 64)) (wordOf y (n / 64)) (n % 64)
   where
     words : (k : ℕ) → wordOf (bothOf x y) k ≡ bitAnd (wordOf x k) (wordOf y k)
+    words zero = refl
+    words (suc zero) = refl
+    words (suc (suc zero)) = refl
+    words (suc (suc (suc k))) = refl
+
+pub digit-raised : (w : ℕ) (x : Block) (n : ℕ) → digit (raisedOf w x) n ≡ (has w (n % 64) || digit x n)
+unfolding digit wordOf
+digit-raised w x n = ap (λ (w : ℕ). has w (n % 64)) (words (n / 64)) ∙ has-or w (wordOf x (n / 64)) (n % 64)
+  where
+    words : (k : ℕ) → wordOf (raisedOf w x) k ≡ bitOr w (wordOf x k)
     words zero = refl
     words (suc zero) = refl
     words (suc (suc zero)) = refl

@@ -11,7 +11,7 @@ use borrow.Author.Tests.{eq-eqb, ne-eqb, leb-false}
 use lib.Dec.{eqb, leb}
 use lib.ListN.{length, getD, drop, length-take, length-drop}
 use lib.Seq.{drop-cons, drop-length, getD-drop}
-use Rattle.equilibrium.specs.Formula.{Formula, conj, disj}
+use Rattle.equilibrium.specs.Formula.{Formula}
 use Rattle.equilibrium.specs.Meaning.{_∈_}
 use Rattle.format.specs.File.{Node, Body, decodedAt, formulaOf, formulas as formulasOf}
 use Rattle.format.specs.Tables.{nodeRecord}
@@ -25,15 +25,15 @@ use Rattle.tables.specs.declared.records.NodeRecord.{NodeRecord}
 use Rattle.pairs.specs.Pairs.{holdsIn}
 use Rattle.pairs.specs.Truths.{byWord}
 use Rattle.pairs.proofs.Truths.{and-self, each-node}
-use Rattle.alike.specs.Blocks.{digit, allOf, bothOf, joinedOf, joinedTruth}
+use Rattle.alike.specs.Blocks.{digit, allOf, bothOf, joinedOf, raisedOf, joinedTruth}
 use Rattle.alike.specs.Blocks.{truthWords, truthIn, Roomy, TruthPut}
 use Rattle.alike.specs.Under.{PartOf, first-part, second-part, PartIn}
-use Rattle.alike.specs.Truths.{hereAt, thereAt, placeOf, View, firstOf, secondOf, PlaceSeen, made, judgedHere, judgedThere, JudgedSeen, Judged}
+use Rattle.alike.specs.Truths.{hereAt, thereAt, placeOf, View, firstOf, secondOf, PlaceSeen, made, alone, judgedHere, judgedThere, JudgedSeen, Judged}
 use Rattle.alike.specs.Truths.{Signed, lastPart, slotOf, JudgedNext, Pair, Seen, Right, Ready, JudgedAll}
 use Rattle.alike.specs.declared.blocks.Block.{Block}
 use Rattle.alike.specs.declared.blocks.Signs.{Signs}
 use Rattle.alike.specs.declared.blocks.Truth.{Truth}
-use Rattle.alike.proofs.BlockDigits.{digit-none, digit-both, digit-joined, truth-is}
+use Rattle.alike.proofs.BlockDigits.{digit-none, digit-both, digit-joined, digit-raised, truth-is}
 use Rattle.alike.proofs.Words.{pair-persists}
 
 -- ---- constant blocks
@@ -115,7 +115,7 @@ module _ (key : NodeRecord) (places : List ℕ) (x y : View) (h t : ℕ) where
 
   -- a word that is none of a formula with parts or an atom
   pub of-none : (key .word ≡ 1 → ⊥) → (2 ≤ key .word → key .word ≤ 5 → ⊥) → JudgedSeen key places h t x y (record { here = allOf 0; there = allOf 0 })
-  unfolding made byWord judgedHere judgedThere
+  unfolding made byWord alone judgedHere judgedThere
   of-none atom parts n l =
       let w = key .word in
       let q = ne-eqb w 2 (λ e. parts (omega arith) (omega arith)) in
@@ -127,7 +127,7 @@ module _ (key : NodeRecord) (places : List ℕ) (x y : View) (h t : ℕ) where
   -- a connective, with its last part for the second
   pub of-joined : 2 ≤ key .word → key .word ≤ 5 → {s : Signs} → Signed (key .word) s → (z : View) → z ≡ cond (eqb (key .word) 2) x y
       → JudgedSeen key places h t x y (record {
-        here = bothOf (joinedOf s (x .there) (z .there)) (joinedOf s (x .here) (z .here));
+        here = bothOf (raisedOf (s .alone) (joinedOf s (x .there) (z .there))) (joinedOf s (x .here) (z .here));
         there = joinedOf s (x .there) (z .there);
       })
   unfolding judgedHere judgedThere
@@ -136,7 +136,9 @@ module _ (key : NodeRecord) (places : List ℕ) (x y : View) (h t : ℕ) where
       let other = ne-eqb w 1 (λ i. omega arith) in
       let there = joined-made w two five signed (x .there) (y .there) (z .there) (ap (λ (v : View). v .there) e ∙ of-there (eqb w 2)) n in
       let here = joined-made w two five signed (x .here) (y .here) (z .here) (ap (λ (v : View). v .here) e ∙ of-here (eqb w 2)) n in (
-        digit-both (joinedOf s (x .there) (z .there)) (joinedOf s (x .here) (z .here)) n ∙ ap₂ _&&_ there here ∙ left other _ _,
+        digit-both (raisedOf (s .alone) (joinedOf s (x .there) (z .there))) (joinedOf s (x .here) (z .here)) n
+            ∙ ap₂ _&&_ (digit-raised (s .alone) (joinedOf s (x .there) (z .there)) n ∙ ap₂ _||_ (signed .alone (n % 64) (omega arith)) there) here
+            ∙ left other _ _,
         there ∙ left other _ _,
       )
     where
@@ -239,16 +241,8 @@ module _ (b : Body) (i : ℕ) where
 part-earlier : {b : Body} {table : List ℕ} → Formulas b table → (i : ℕ) → i < length (b .nodes) → (p : ℕ) → PartOf (recordFrom (nodeAt table i)) p → p < i
 part-earlier {b} g i l = each-node g (λ r A. (p : ℕ) → PartOf r p → p < i) i l (parts-earlier b i)
 
--- what is true of one is true of the other
-abbrev Below : Bool → Bool → Type 0
-Below c a = c ≡ true → a ≡ true
-
-and-below : (a c : Bool) → Below c a → (a && c) ≡ c
-and-below true c f = refl
-and-below false true f = f refl
-and-below false false f = refl
-
-not-below : (a c : Bool) → Below c a → (not a && not c) ≡ not a
+-- two denials where one says no more than the other
+not-below : (a c : Bool) → (c ≡ true → a ≡ true) → (not a && not c) ≡ not a
 not-below true c f = refl
 not-below false true f = absurd (false≢true (f refl))
 not-below false false f = refl
@@ -266,10 +260,6 @@ module _ {b : Body} {table : List ℕ} (g : Formulas b table) (places : List ℕ
       (judgedHere r places h (at (r .first)) (at (r .second)) n ≡ holdsIn h′ t′ A)
       × (judgedThere r places t (at (r .first)) (at (r .second)) n ≡ holdsIn t′ t′ A)
 
-  -- a formula that holds in the pair holds in its greater set
-  holds : (A : Formula) → Below (holdsIn h′ t′ A) (holdsIn t′ t′ A)
-  holds = pair-persists pair inside
-
   module _ (i : ℕ) where
     -- a connective of two operands
     two : (f : Bool → Bool → Bool → Bool → Bool) (p q : ℕ) → DigitsRight p → DigitsRight q
@@ -281,22 +271,22 @@ module _ {b : Body} {table : List ℕ} (g : Formulas b table) (places : List ℕ
     -- the formula of a node has them if its operands have
     node-right : (m : Node) → refersAhead (beforeNode b i) m ≡ false → ((p : ℕ) → PartOf (recordFrom (nodeRecord m)) p → p < i → DigitsRight p)
         → Judges (recordFrom (nodeRecord m)) (formulaOf (formulasOf (b .nodes)) m)
-    unfolding byWord made holdsIn judgedHere judgedThere
+    unfolding byWord made alone holdsIn judgedHere judgedThere
     node-right Node.bot e parts = (refl, refl)
     node-right (Node.atom k) e parts =
         let l : k < 64 = omega (arith, leb-false (b .atoms) k e, good-held (g .good) .few-atoms) in
         (sym (pair .here k l), sym (pair .there k l))
     node-right (Node.not p) e parts =
         let x = parts p (first-part (omega arith)) (earlier b i (p ∷ []) e p (List·Memᴰ·head refl)) in
-        (ap₂ (λ (a c : Bool). not a && not c) (x .1) (x .0) ∙ not-below _ _ (holds (decodedAt (b .nodes) p)), ap not (x .1))
+        (ap₂ (λ (a c : Bool). not a && not c) (x .1) (x .0) ∙ not-below _ _ (pair-persists pair inside (decodedAt (b .nodes) p)), ap not (x .1))
     node-right (Node.and p q) e parts =
         let x = parts p (first-part (omega arith)) (earlier b i (p ∷ q ∷ []) e p (List·Memᴰ·head refl)) in
         let y = parts q (second-part (omega arith)) (earlier b i (p ∷ q ∷ []) e q (List·Memᴰ·tail (List·Memᴰ·head refl))) in
-        (two (λ a b c d. (a && b) && (c && d)) p q x y ∙ and-below _ _ (holds (conj (decodedAt (b .nodes) p) (decodedAt (b .nodes) q))), two (λ a b c d. a && b) p q x y)
+        (two (λ a b c d. c && d) p q x y, two (λ a b c d. a && b) p q x y)
     node-right (Node.or p q) e parts =
         let x = parts p (first-part (omega arith)) (earlier b i (p ∷ q ∷ []) e p (List·Memᴰ·head refl)) in
         let y = parts q (second-part (omega arith)) (earlier b i (p ∷ q ∷ []) e q (List·Memᴰ·tail (List·Memᴰ·head refl))) in
-        (two (λ a b c d. (a || b) && (c || d)) p q x y ∙ and-below _ _ (holds (disj (decodedAt (b .nodes) p) (decodedAt (b .nodes) q))), two (λ a b c d. a || b) p q x y)
+        (two (λ a b c d. c || d) p q x y, two (λ a b c d. a || b) p q x y)
     node-right (Node.imp p q) e parts =
         let x = parts p (first-part (omega arith)) (earlier b i (p ∷ q ∷ []) e p (List·Memᴰ·head refl)) in
         let y = parts q (second-part (omega arith)) (earlier b i (p ∷ q ∷ []) e q (List·Memᴰ·tail (List·Memᴰ·head refl))) in

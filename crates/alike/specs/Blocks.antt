@@ -3,7 +3,7 @@ use Prim.Native.Nat.{ℕ, zero, suc, _+_, _*_, _/_, _%_, _≤_}
 use mathlib.Core.Bool.{Bool}
 use mathlib.Core.List.{List, [], _∷_}
 use mathlib.Core.Path.{_≡_}
-use lib.Bits.{bitAnd, bitXor}
+use lib.Bits.{bitAnd, bitOr, bitXor}
 use lib.ListN.{length, getD}
 use Rattle.atomset.specs.AtomSet.{has}
 use Rattle.alike.specs.declared.blocks.Block.{Block}
@@ -55,11 +55,15 @@ joinedOf s x y = record {
   w3 = joinedWord s (x .w3) (y .w3);
 }
 
--- so joined in each pair, and in a smaller set only where it is so in the greater one
+-- a block with the ones of a word in each of its words
+abbrev pub raisedOf : ℕ → Block → Block
+raisedOf w x = record { w0 = bitOr w (x .w0); w1 = bitOr w (x .w1); w2 = bitOr w (x .w2); w3 = bitOr w (x .w3) }
+
+-- so joined in each pair, and with a smaller set only where it is so with the greater one too, or the pair is looked at alone
 abbrev pub joinedTruth : Signs → Truth → Truth → Truth
 joinedTruth s x y = record {
-  here = bothOf (joinedOf s (x .there) (y .there)) (joinedOf s (x .here) (y .here));
-  also = bothOf (joinedOf s (x .there) (y .there)) (joinedOf s (x .also) (y .also));
+  here = bothOf (raisedOf (s .alone) (joinedOf s (x .there) (y .there))) (joinedOf s (x .here) (y .here));
+  also = bothOf (raisedOf (s .alone) (joinedOf s (x .there) (y .there))) (joinedOf s (x .also) (y .also));
   there = joinedOf s (x .there) (y .there);
 }
 

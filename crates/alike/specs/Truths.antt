@@ -63,8 +63,12 @@ pub record PlaceTruth (place h g t : ℕ) (v : Truth) : Type 0 where
 unfoldable pub made : ℕ → Bool → Bool → Bool
 made word A B = byWord word false (not A) (A && B) (A || B) (not A || B)
 
--- The truth in (t,t) of pair n of the formula of a record, where x and y are the truths of its parts; and in the pair itself, where a
--- formula holds if it holds in (t,t) and its connective makes it so of the parts' truths in the pair.
+-- a conjunction and a disjunction look at the pair alone
+unfoldable pub alone : ℕ → Bool
+alone word = eqb word 3 || eqb word 4
+
+-- The truth in (t,t) of pair n of the formula of a record, where x and y are the truths of its parts; and in the pair itself, where its
+-- connective has to make it so of the parts' truths in the pair, and in (t,t) too if it does not look at the pair alone.
 unfoldable pub judgedThere : NodeRecord → List ℕ → ℕ → View → View → ℕ → Bool
 judgedThere r places t x y n =
     cond (eqb (r .word) 1) (thereAt t (placeOf places (r .first)) n) (made (r .word) (digit (x .there) n) (digit (y .there) n))
@@ -72,7 +76,7 @@ judgedThere r places t x y n =
 unfoldable pub judgedHere : NodeRecord → List ℕ → ℕ → View → View → ℕ → Bool
 judgedHere r places h x y n =
     cond (eqb (r .word) 1) (hereAt h (placeOf places (r .first)) n)
-    (made (r .word) (digit (x .there) n) (digit (y .there) n) && made (r .word) (digit (x .here) n) (digit (y .here) n))
+    ((alone (r .word) || made (r .word) (digit (x .there) n) (digit (y .there) n)) && made (r .word) (digit (x .here) n) (digit (y .here) n))
 
 -- The signs of a connective, as a conjunction: A|B is ~(~A&~B), A->B is ~(A&~B), and ~A is ~(A&A). A word of ones turns what it stands
 -- for.
@@ -80,6 +84,7 @@ pub record Signed (word : ℕ) (s : Signs) : Type 0 where
   pub first : (i : ℕ) → i < 64 → has (s .first) i ≡ eqb word 4
   pub second : (i : ℕ) → i < 64 → has (s .second) i ≡ leb 4 word
   pub whole : (i : ℕ) → i < 64 → has (s .whole) i ≡ not (eqb word 3)
+  pub alone : (i : ℕ) → i < 64 → has (s .alone) i ≡ alone word
 
 -- the last part of a formula: its second, or the first where it has one alone
 abbrev pub lastPart : NodeRecord → ℕ

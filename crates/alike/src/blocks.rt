@@ -6,7 +6,7 @@ ghost use mathlib.Core.Bool.{true};
 ghost use mathlib.Core.Path.{_≡_};
 ghost use lib.ListN.{length};
 ghost use lib.Seq.{sets};
-ghost use Rattle.alike.specs.Blocks.{wordsOf, allOf, bothOf, SameWords, joinedOf, joinedTruth, hereIn, alsoIn, truthIn, Roomy, TruthPut};
+ghost use Rattle.alike.specs.Blocks.{wordsOf, allOf, bothOf, SameWords, joinedOf, raisedOf, joinedTruth, hereIn, alsoIn, truthIn, Roomy, TruthPut};
 use known::index::note;
 
 // Digit n of a block is digit n % 64 of word n / 64.
@@ -25,11 +25,13 @@ pub(crate) struct Truth {
     pub there: Block,
 }
 
-// What turns a conjunction into another connective: ones where its first part, its second part and the whole are denied, else zeros.
+// What turns a conjunction into another connective: ones where its first part, its second part and the whole are denied, else zeros; and
+// ones where a pair (h,t) is looked at alone, as for a conjunction and a disjunction, and not (t,t) too.
 pub(crate) struct Signs {
     pub first: u64,
     pub second: u64,
     pub whole: u64,
+    pub alone: u64,
 }
 
 // The words of a truth.
@@ -70,6 +72,18 @@ fn joined(x: Block, y: Block, signs: Signs) -> Block
     }
 }
 
+// A block with the ones of a word in each of its words.
+fn raised(x: Block, word: u64) -> Block
+    ensures { λ r. ⌜ r ≡ raisedOf word x ⌝ }
+{
+    Block {
+        w0: word | x.w0,
+        w1: word | x.w1,
+        w2: word | x.w2,
+        w3: word | x.w3,
+    }
+}
+
 // Whether two blocks have the same words.
 fn same(x: Block, y: Block) -> bool
     ensures { λ r. ⌜ (r ≡ true) ↔ SameWords x y ⌝ }
@@ -96,14 +110,15 @@ pub(crate) fn same_both(x: Block, y: Block, z: Block, w: Block) -> bool
     same(z, w)
 }
 
-// Two truths so joined. What holds in a pair (h,t) holds in (t,t).
+// Two truths so joined.
 pub(crate) fn joined_truth(x: Truth, y: Truth, signs: Signs) -> Truth
     ensures { λ r. ⌜ r ≡ joinedTruth signs x y ⌝ }
 {
     let there = joined(x.there, y.there, signs);
+    let bound = raised(there, signs.alone);
     Truth {
-        here: both(there, joined(x.here, y.here, signs)),
-        also: both(there, joined(x.also, y.also, signs)),
+        here: both(bound, joined(x.here, y.here, signs)),
+        also: both(bound, joined(x.also, y.also, signs)),
         there,
     }
 }

@@ -176,6 +176,7 @@ fn signs_of(connective: u16) -> Signs
         first: ones_if(connective == OR),
         second: ones_if(OR <= connective),
         whole: ones_if(connective != AND),
+        alone: ones_if(connective == AND) | ones_if(connective == OR),
     }
 }
 
