@@ -1,5 +1,5 @@
 -- One of some candidates is equal to a formula: by the candidates that are left when all pairs of places are gone through.
-use Prim.Native.Nat.{ℕ, _^_, _≤_, _<_}
+use Prim.Native.Nat.{ℕ, _*_, _^_, _≤_, _<_}
 use native.Mathlib.Omega.{arith}
 use mathlib.Core.Bool.{Bool, true, false, not, _&&_, false≢true, true≢false}
 use mathlib.Core.List.{List, [], _∷_, List·Memᴰ·head, List·Memᴰ·not-nil, List·Memᴰ·append-cases}
@@ -11,7 +11,7 @@ use lib.ListN.{length, getD, take, length-take}
 use Rattle.equilibrium.specs.Formula.{atomsOf}
 use Rattle.equilibrium.specs.Meaning.{_∈_, Equal}
 use Rattle.format.specs.File.{Body, decodedAt}
-use Rattle.format.specs.Tables.{mostFormulas}
+use Rattle.format.specs.Tables.{mostFormulas, nodeWidth}
 use Rattle.format.proofs.GoodBodies.{good-held, in-getD}
 use Rattle.atomset.specs.AtomSet.{has, Member, members}
 use Rattle.atomset.proofs.Digits.{has-or}
@@ -19,8 +19,8 @@ use Rattle.atomset.proofs.Membership.{member-union, member-difference}
 use Rattle.atomset.proofs.Members.{member-members, walk-ends}
 use Rattle.known.specs.Known.{AtomNotes}
 use Rattle.sides.specs.Deciding.{Decides}
-use Rattle.alike.specs.Under.{MarkedBefore, Room, Listed}
-use Rattle.alike.specs.Survivors.{AlikeOver, Prepared, RoomFor, AlikeAll, AnyAlike}
+use Rattle.alike.specs.Under.{MarkedBefore, Room, Listed, StepsFilled}
+use Rattle.alike.specs.Survivors.{AlikeOver, Prepared, RoomFor, AlikeAll, AnyAlike, AnyListed}
 use Rattle.alike.specs.Places.{OuterPlaces}
 use Rattle.alike.specs.Alike.{atomsAt, CandidatesMarked, Bounded, Held, OneEqual, BothSeated, SomeAlike, SomeEqual, Grouped, GroupJudged}
 use Rattle.alike.proofs.Remaining.{member-walk}
@@ -49,9 +49,9 @@ some-first set first e small is = by (members set) refl
         member-members set small first .1 (subst (λ (ys : List ℕ). first ∈ ys) (sym k) (List·Memᴰ·head here))
 
 -- the candidates that are left say whether one is alike
-pub any-alike : {formulas list slots places : List ℕ} {outer own : ℕ} {side : List ℕ} {candidates : ℕ} {table : List ℕ} {kept : ℕ}
-    → AlikeAll formulas list slots places outer own side candidates table kept → RoomFor list table
-    → (r : Bool) → r ≡ eqb (length (members kept)) 0 → kept < 2 ^ 64 → AnyAlike formulas list slots places outer own side candidates (not r)
+pub any-alike : {steps : List ℕ} {count : ℕ} {slots places : List ℕ} {outer own : ℕ} {side : List ℕ} {candidates : ℕ} {table : List ℕ} {kept : ℕ}
+    → AlikeAll steps count slots places outer own side candidates table kept → RoomFor count table
+    → (r : Bool) → r ≡ eqb (length (members kept)) 0 → kept < 2 ^ 64 → AnyAlike steps count slots places outer own side candidates (not r)
 any-alike {kept = kept} alike room r e small = record {
   decides = λ b p.
       let some = some-member kept r e small in
@@ -62,13 +62,21 @@ any-alike {kept = kept} alike room r e small = record {
       };
 }
 
+-- and so by the steps that were filled in for a list
+pub any-listed : {formulas list slots places : List ℕ} {outer own : ℕ} {side : List ℕ} {candidates : ℕ} {before steps : List ℕ} {r : Bool}
+    → StepsFilled formulas list slots before steps → nodeWidth * length list ≤ length before
+    → AnyAlike steps (length list) slots places outer own side candidates r → AnyListed formulas list slots places outer own side candidates r
+any-listed {formulas} {list} steps room alike = record {
+  decides = λ b p. alike .decides b (record { formulas = formulas; list = list; prepared = p; steps-held = steps .filled room });
+}
+
 -- and where atoms have places of their own, whether one is equal
 module _ {formulas : List ℕ} {own : ℕ} {places side : List ℕ} {candidates : ℕ} {marks list slots : List ℕ}
     (room : Room marks list slots) {end : ℕ} (bounded : Bounded own side end)
     {marks₁ marks₂ list′ slots′ : List ℕ} (own-marked : MarkedBefore own mostFormulas marks marks₁)
     (all-marked : CandidatesMarked side candidates marks₁ marks₂)
     {n : ℕ} (listed : Listed formulas end marks₂ list′ slots′ n) {width outer : ℕ} (places-outer : OuterPlaces width outer)
-    {r : Bool} (alike : AnyAlike formulas (take n list′) slots′ places outer own side candidates r) where
+    {r : Bool} (alike : AnyListed formulas (take n list′) slots′ places outer own side candidates r) where
   module _ (b : Body) (held : Held b formulas own side) (on-side : (c : ℕ) → Member c candidates → c < length side) where
     few : length (b .nodes) ≤ mostFormulas
     few = good-held (held .formulas-held .good) .few-nodes

@@ -20,8 +20,9 @@ use Rattle.atomset.proofs.SetOf.{member-setOf, setOf-lt}
 use Rattle.pairs.specs.Parts.{part}
 use Rattle.pairs.proofs.Parts.{part-inside}
 use Rattle.alike.specs.Blocks.{truthIn}
-use Rattle.alike.specs.Truths.{slotOf, Right, JudgedAll}
-use Rattle.alike.specs.Survivors.{SameHere, mostPlaces, AlikeAt, AlikeUnder, Prepared, RoomFor, Remain, AlikeBelow, AlikeAll}
+use Rattle.alike.specs.Under.{slotOf}
+use Rattle.alike.specs.Truths.{Right, JudgedAll}
+use Rattle.alike.specs.Survivors.{SameHere, mostPlaces, AlikeAt, AlikeUnder, Given, RoomFor, Remain, AlikeBelow, AlikeAll}
 use Rattle.alike.proofs.Remaining.{remain-first, remain-next, remain-none}
 use Rattle.alike.proofs.Words.{same-here-iff}
 
@@ -61,7 +62,7 @@ parts-counted set n h fits e = let few = few-members mostPlaces set (omega arith
 
 -- ---- one t
 
-module _ (formulas list slots places : List ℕ) (t a : ℕ) (side : List ℕ) (alive : ℕ) (table₀ : List ℕ) where
+module _ (steps : List ℕ) (count : ℕ) (slots places : List ℕ) (t a : ℕ) (side : List ℕ) (alive : ℕ) (table₀ : List ℕ) where
   -- alike in the 256 pairs of part n
   abbrev pub InPart : Body → ℕ → ℕ → Type 0
   InPart b n c = AlikeAt b places (setOf (part n (members t))) t a (getD side c 0)
@@ -74,7 +75,7 @@ module _ (formulas list slots places : List ℕ) (t a : ℕ) (side : List ℕ) (
     pub small : kept < 2 ^ 64
     pub long : length table ≡ length table₀
     pub remain :
-        (b : Body) → Prepared b formulas list slots a side alive → RoomFor list table₀
+        (b : Body) → Given b steps count slots a side alive → RoomFor count table₀
         → Remain (λ c. (i : ℕ) → i < n → i < parts → InPart b i c) alive kept
 
   pub below-starts : alive < 2 ^ 64 → BelowSoFar table₀ alive 0
@@ -83,7 +84,7 @@ module _ (formulas list slots places : List ℕ) (t a : ℕ) (side : List ℕ) (
   -- two parts more, or the last one twice
   pub below-next : t < 2 ^ 64 → {table : List ℕ} {kept n : ℕ} → BelowSoFar table kept n → n < parts → (m : ℕ) → m ≡ min (n + 1) (parts - 1)
       → (h g : ℕ) → h ≡ setOf (part n (members t)) → g ≡ setOf (part m (members t))
-      → {table′ : List ℕ} → JudgedAll formulas list slots places h g t table table′ → ((i : ℕ) → getD table′ i 0 < 2 ^ 64)
+      → {table′ : List ℕ} → JudgedAll steps count places h g t table table′ → ((i : ℕ) → getD table′ i 0 < 2 ^ 64)
       → (kept′ : ℕ) → kept′ < 2 ^ 64 → ((c : ℕ) → Member c kept′ ↔ (Member c kept × SameHere table′ slots a (getD side c 0)))
       → BelowSoFar table′ kept′ (n + 2)
   below-next fits {table} {kept} {n} s low m least h g e f {table′} judged bound kept′ small′ still = record {
@@ -99,18 +100,19 @@ module _ (formulas list slots places : List ℕ) (t a : ℕ) (side : List ℕ) (
     );
   }
     where
-      right : (b : Body) → Prepared b formulas list slots a side alive → RoomFor list table₀ → (i : ℕ) → i ∈ list
+      right : (b : Body) (p : Given b steps count slots a side alive) → RoomFor count table₀ → (i : ℕ) → i ∈ p .list
           → Right b places h g t i (truthIn table′ (slotOf slots i))
       right b p r =
-          judged .right b (p .ready) (omega (arith, s .long)) (subst (λ (z : ℕ). Included z t) (sym e) (part-included t n fits))
+          judged .right b (p .formulas) (p .list) slots (p .prepared .ready) (p .steps-held) (omega (arith, s .long))
+          (subst (λ (z : ℕ). Included z t) (sym e) (part-included t n fits))
           (subst (λ (z : ℕ). Included z t) (sym f) (part-included t m fits))
 
-      words : (b : Body) → Prepared b formulas list slots a side alive → RoomFor list table₀ → (c : ℕ) → Member c kept
+      words : (b : Body) → Given b steps count slots a side alive → RoomFor count table₀ → (c : ℕ) → Member c kept
           → SameHere table′ slots a (getD side c 0) ↔ (InPart b n c × InPart b m c)
       words b p r c k =
           let x = getD side c 0 in
-          let both = same-here-iff b places h g t table′ slots a x (right b p r a (p .own))
-          (right b p r x (p .candidates c (s .remain b p r c .0 k .0))) bound in (
+          let both = same-here-iff b places h g t table′ slots a x (right b p r a (p .prepared .own))
+          (right b p r x (p .prepared .candidates c (s .remain b p r c .0 k .0))) bound in (
             λ same. let two = both .0 same in
                 (subst (λ (z : ℕ). AlikeAt b places z t a x) e (two .0), subst (λ (z : ℕ). AlikeAt b places z t a x) f (two .1)),
             λ (one, two). both .1 (subst (λ (z : ℕ). AlikeAt b places z t a x) (sym e) one, subst (λ (z : ℕ). AlikeAt b places z t a x) (sym f) two),
@@ -127,7 +129,7 @@ module _ (formulas list slots places : List ℕ) (t a : ℕ) (side : List ℕ) (
 
   -- no candidate is left
   pub below-none : {table : List ℕ} {kept n : ℕ} → BelowSoFar table kept n → members kept ≡ []
-      → AlikeBelow formulas list slots places t a side alive table₀ table 0
+      → AlikeBelow steps count slots places t a side alive table₀ table 0
   below-none {kept = kept} {n = n} s none = record {
     long = s .long;
     remain = λ b p r c. (
@@ -139,7 +141,7 @@ module _ (formulas list slots places : List ℕ) (t a : ℕ) (side : List ℕ) (
 
   -- no part is left
   pub below-whole : {table : List ℕ} {kept n : ℕ} → BelowSoFar table kept n → parts ≤ n
-      → AlikeBelow formulas list slots places t a side alive table₀ table kept
+      → AlikeBelow steps count slots places t a side alive table₀ table kept
   below-whole {kept = kept} s l = record {
     long = s .long;
     remain = λ b p r c.
@@ -149,7 +151,7 @@ module _ (formulas list slots places : List ℕ) (t a : ℕ) (side : List ℕ) (
 
 -- ---- all t
 
-module _ (formulas list slots places : List ℕ) (outer a : ℕ) (side : List ℕ) (alive : ℕ) (table₀ : List ℕ) where
+module _ (steps : List ℕ) (count : ℕ) (slots places : List ℕ) (outer a : ℕ) (side : List ℕ) (alive : ℕ) (table₀ : List ℕ) where
   -- alike in all pairs with part m as t
   abbrev pub InPlaces : Body → ℕ → ℕ → Type 0
   InPlaces b m c = AlikeUnder b places (setOf (part m (members outer))) a (getD side c 0)
@@ -158,14 +160,14 @@ module _ (formulas list slots places : List ℕ) (outer a : ℕ) (side : List �
     pub small : kept < 2 ^ 64
     pub long : length table ≡ length table₀
     pub remain :
-        (b : Body) → Prepared b formulas list slots a side alive → RoomFor list table₀ → Remain (λ c. (i : ℕ) → i < m → InPlaces b i c) alive kept
+        (b : Body) → Given b steps count slots a side alive → RoomFor count table₀ → Remain (λ c. (i : ℕ) → i < m → InPlaces b i c) alive kept
 
   pub all-starts : alive < 2 ^ 64 → AllSoFar table₀ alive 0
   all-starts s = record { small = s; long = refl; remain = λ b p r. remain-first (InPlaces b) alive }
 
   -- one t more
   pub all-next : {table : List ℕ} {kept m : ℕ} → AllSoFar table kept m → (t : ℕ) → t ≡ setOf (part m (members outer))
-      → {table′ : List ℕ} (kept′ : ℕ) → kept′ < 2 ^ 64 → AlikeBelow formulas list slots places t a side kept table table′ kept′
+      → {table′ : List ℕ} (kept′ : ℕ) → kept′ < 2 ^ 64 → AlikeBelow steps count slots places t a side kept table table′ kept′
       → AllSoFar table′ kept′ (m + 1)
   all-next {table} {kept} {m} s t e kept′ small′ below = record {
     small = small′;
@@ -175,17 +177,26 @@ module _ (formulas list slots places : List ℕ) (outer a : ℕ) (side : List �
         (below .remain b (prepared b p r) (omega (arith, s .long))));
   }
     where
-      prepared : (b : Body) → Prepared b formulas list slots a side alive → RoomFor list table₀ → Prepared b formulas list slots a side kept
-      prepared b p r = record { ready = p .ready; own = p .own; candidates = λ c k. p .candidates c (s .remain b p r c .0 k .0) }
+      prepared : (b : Body) → Given b steps count slots a side alive → RoomFor count table₀ → Given b steps count slots a side kept
+      prepared b p r = record {
+        formulas = p .formulas;
+        list = p .list;
+        prepared = record {
+          ready = p .prepared .ready;
+          own = p .prepared .own;
+          candidates = λ c k. p .prepared .candidates c (s .remain b p r c .0 k .0);
+        };
+        steps-held = p .steps-held;
+      }
 
   pub all-none : {table : List ℕ} {kept m : ℕ} → AllSoFar table kept m → members kept ≡ [] → m ≤ 2 ^ length (members outer)
-      → AlikeAll formulas list slots places outer a side alive table₀ 0
+      → AlikeAll steps count slots places outer a side alive table₀ 0
   all-none {kept = kept} {m = m} s none l = record {
     remain = λ b p r. remain-none (InPlaces b) alive kept m (2 ^ length (members outer)) (s .remain b p r) (s .small) none l;
   }
 
   pub all-whole : {table : List ℕ} {kept m : ℕ} → AllSoFar table kept m → m ≡ 2 ^ length (members outer)
-      → AlikeAll formulas list slots places outer a side alive table₀ kept
+      → AlikeAll steps count slots places outer a side alive table₀ kept
   all-whole {kept = kept} s e = record {
     remain = λ b p r. subst (λ (k : ℕ). Remain (λ c. (i : ℕ) → i < k → InPlaces b i c) alive kept) e (s .remain b p r);
   }

@@ -1,7 +1,6 @@
 -- The truths of formulas digit by digit: constant blocks, the truth of a formula by those of its parts, and that these are the truths of a
 -- good body's formulas in the 256 pairs.
 use Prim.Native.Nat.{ℕ, zero, suc, _+_, _-_, _*_, _/_, _%_, _≤_, _<_}
-use native.Mathlib.Decide.{ℕ-discrete}
 use native.Mathlib.Omega.{arith}
 use mathlib.Core.Bool.{Bool, true, false, cond, not, _&&_, _||_, xor, false≢true}
 use mathlib.Core.List.{List, [], _∷_, List·Memᴰ·head, List·Memᴰ·tail, List·Memᴰ·not-nil, List·Memᴰ·cases-cons}
@@ -27,13 +26,14 @@ use Rattle.pairs.specs.Truths.{byWord}
 use Rattle.pairs.proofs.Truths.{and-self, each-node}
 use Rattle.alike.specs.Blocks.{digit, allOf, bothOf, joinedOf, raisedOf, joinedTruth}
 use Rattle.alike.specs.Blocks.{truthWords, truthIn, Roomy, TruthPut}
-use Rattle.alike.specs.Under.{PartOf, first-part, second-part, PartIn}
+use Rattle.alike.specs.Under.{PartOf, first-part, second-part, PartIn, slotOf, stepOf, Steps}
 use Rattle.alike.specs.Truths.{hereAt, thereAt, placeOf, View, firstOf, secondOf, PlaceSeen, made, alone, judgedHere, judgedThere, JudgedSeen, Judged}
-use Rattle.alike.specs.Truths.{Signed, lastPart, slotOf, JudgedNext, Pair, Seen, Right, Ready, JudgedAll}
+use Rattle.alike.specs.Truths.{Signed, JudgedNext, Pair, Seen, Right, Ready, JudgedAll}
 use Rattle.alike.specs.declared.blocks.Block.{Block}
 use Rattle.alike.specs.declared.blocks.Signs.{Signs}
 use Rattle.alike.specs.declared.blocks.Truth.{Truth}
 use Rattle.alike.proofs.BlockDigits.{digit-none, digit-both, digit-joined, digit-raised, truth-is}
+use Rattle.alike.proofs.Stepping.{step-parts}
 use Rattle.alike.proofs.Words.{pair-persists}
 
 -- ---- constant blocks
@@ -64,12 +64,12 @@ agree-below f g (suc m) e n l =
 -- ---- a formula by its parts
 
 -- a connective as a conjunction with its signs
-made-signed : (word : ℕ) → 2 ≤ word → word ≤ 5 → (A B : Bool)
-    → xor (xor A (eqb word 4) && xor (cond (eqb word 2) A B) (leb 4 word)) (not (eqb word 3)) ≡ made word A B
+made-signed : (word : ℕ) → 2 ≤ word → word ≤ 5 → (A B : Bool) → xor (xor A (eqb word 4) && xor B (leb 4 word)) (not (eqb word 3)) ≡ made word A B
 unfolding made byWord xor
 made-signed zero two five A B = absurd (omega arith)
 made-signed (suc zero) two five A B = absurd (omega arith)
-made-signed (suc (suc zero)) two five true B = refl
+made-signed (suc (suc zero)) two five true true = refl
+made-signed (suc (suc zero)) two five true false = refl
 made-signed (suc (suc zero)) two five false B = refl
 made-signed (suc (suc (suc zero))) two five true true = refl
 made-signed (suc (suc (suc zero))) two five true false = refl
@@ -82,21 +82,16 @@ made-signed (suc (suc (suc (suc (suc zero))))) two five true false = refl
 made-signed (suc (suc (suc (suc (suc zero))))) two five false B = refl
 made-signed (suc (suc (suc (suc (suc (suc n)))))) two five A B = absurd (omega arith)
 
-module _ (word : ℕ) (two : 2 ≤ word) (five : word ≤ 5) {s : Signs} (signed : Signed word s) where
-  -- so are blocks, z the second of which is the first again for a negation
-  joined-made : (x y z : Block) → z ≡ cond (eqb word 2) x y → (n : ℕ) → digit (joinedOf s x z) n ≡ made word (digit x n) (digit y n)
-  joined-made x y z e n =
-      let i = n % 64 in
-      let last : digit z n ≡ cond (eqb word 2) (digit x n) (digit y n) = ap (λ (v : Block). digit v n) e ∙ of-either (eqb word 2) in
-      digit-joined s x z n
-      ∙ ap₂ (λ (A B : Bool). xor (A && B) (has (s .whole) i)) (ap (xor (digit x n)) (signed .first i (omega arith)))
-      (ap₂ xor last (signed .second i (omega arith)))
-      ∙ ap (xor _) (signed .whole i (omega arith))
-      ∙ made-signed word two five (digit x n) (digit y n)
-    where
-      of-either : (b : Bool) → digit (cond b x y) n ≡ cond b (digit x n) (digit y n)
-      of-either true = refl
-      of-either false = refl
+-- and so with blocks
+joined-made : (word : ℕ) → 2 ≤ word → word ≤ 5 → {s : Signs} → Signed word s → (x y : Block) (n : ℕ)
+    → digit (joinedOf s x y) n ≡ made word (digit x n) (digit y n)
+joined-made word two five {s} signed x y n =
+    let i = n % 64 in
+    digit-joined s x y n
+    ∙ ap₂ (λ (A B : Bool). xor (A && B) (has (s .whole) i)) (ap (xor (digit x n)) (signed .first i (omega arith)))
+    (ap (xor (digit y n)) (signed .second i (omega arith)))
+    ∙ ap (xor _) (signed .whole i (omega arith))
+    ∙ made-signed word two five (digit x n) (digit y n)
 
 -- what a test that is decided chooses
 chosen : {b : Bool} → b ≡ true → (x y : Bool) → x ≡ cond b x y
@@ -124,50 +119,41 @@ module _ (key : NodeRecord) (places : List ℕ) (x y : View) (h t : ℕ) where
       let u = ne-eqb w 5 (λ e. parts (omega arith) (omega arith)) in
       (simp (digit-none n, ne-eqb w 1 atom, q, r, s, u), simp (digit-none n, ne-eqb w 1 atom, q, r, s, u))
 
-  -- a connective, with its last part for the second
-  pub of-joined : 2 ≤ key .word → key .word ≤ 5 → {s : Signs} → Signed (key .word) s → (z : View) → z ≡ cond (eqb (key .word) 2) x y
+  -- a connective
+  pub of-joined : 2 ≤ key .word → key .word ≤ 5 → {s : Signs} → Signed (key .word) s
       → JudgedSeen key places h t x y (record {
-        here = bothOf (raisedOf (s .alone) (joinedOf s (x .there) (z .there))) (joinedOf s (x .here) (z .here));
-        there = joinedOf s (x .there) (z .there);
+        here = bothOf (raisedOf (s .alone) (joinedOf s (x .there) (y .there))) (joinedOf s (x .here) (y .here));
+        there = joinedOf s (x .there) (y .there);
       })
   unfolding judgedHere judgedThere
-  of-joined two five {s} signed z e n l =
+  of-joined two five {s} signed n l =
       let w = key .word in
       let other = ne-eqb w 1 (λ i. omega arith) in
-      let there = joined-made w two five signed (x .there) (y .there) (z .there) (ap (λ (v : View). v .there) e ∙ of-there (eqb w 2)) n in
-      let here = joined-made w two five signed (x .here) (y .here) (z .here) (ap (λ (v : View). v .here) e ∙ of-here (eqb w 2)) n in (
-        digit-both (raisedOf (s .alone) (joinedOf s (x .there) (z .there))) (joinedOf s (x .here) (z .here)) n
-            ∙ ap₂ _&&_ (digit-raised (s .alone) (joinedOf s (x .there) (z .there)) n ∙ ap₂ _||_ (signed .alone (n % 64) (omega arith)) there) here
+      let there = joined-made w two five signed (x .there) (y .there) n in
+      let here = joined-made w two five signed (x .here) (y .here) n in (
+        digit-both (raisedOf (s .alone) (joinedOf s (x .there) (y .there))) (joinedOf s (x .here) (y .here)) n
+            ∙ ap₂ _&&_ (digit-raised (s .alone) (joinedOf s (x .there) (y .there)) n ∙ ap₂ _||_ (signed .alone (n % 64) (omega arith)) there) here
             ∙ left other _ _,
         there ∙ left other _ _,
       )
-    where
-      of-there : (b : Bool) → cond b x y .there ≡ cond b (x .there) (y .there)
-      of-there true = refl
-      of-there false = refl
-
-      of-here : (b : Bool) → cond b x y .here ≡ cond b (x .here) (y .here)
-      of-here true = refl
-      of-here false = refl
 
 -- ---- a truth put at its slot
 
 -- a slot that was asked for, where the table has it
-pub at-slot : (table slots : List ℕ) {p q x : ℕ} → q ≡ p → (slotOf slots q < length table / truthWords → x ≡ slotOf slots q)
-    → Roomy table (slotOf slots p) → x ≡ slotOf slots p
-at-slot table slots {p} {q} {x} e its room = subst (λ (z : ℕ). (slotOf slots z < length table / truthWords → x ≡ slotOf slots z)) e its (omega arith)
+pub at-slot : (table : List ℕ) {slot x : ℕ} → (slot < length table / truthWords → x ≡ slot) → Roomy table slot → x ≡ slot
+at-slot table its room = its (omega arith)
 
-module _ (key : NodeRecord) (slots places : List ℕ) (h g t k : ℕ) (table : List ℕ) where
+module _ (key : NodeRecord) (places : List ℕ) (h g t k : ℕ) (table : List ℕ) where
   -- the truths of the parts
   abbrev X : Truth
-  X = truthIn table (slotOf slots (key .first))
+  X = truthIn table (key .first)
 
   abbrev Y : Truth
-  Y = truthIn table (slotOf slots (key .second))
+  Y = truthIn table (key .second)
 
   pub judged-put : {table′ : List ℕ} (v : Truth) → TruthPut table k v table′
-      → (((p : ℕ) → PartOf key p → Roomy table (slotOf slots p)) → Judged key places h g t X Y v)
-      → JudgedNext key slots places h g t k table table′
+      → ((2 ≤ key .word → Roomy table (key .first) × Roomy table (key .second)) → Judged key places h g t X Y v)
+      → JudgedNext key places h g t k table table′
   judged-put v put judged = record {
     long = put .long;
     own = λ room. subst (Judged key places h g t X Y) (sym (put .own)) (judged room);
@@ -176,43 +162,28 @@ module _ (key : NodeRecord) (slots places : List ℕ) (h g t k : ℕ) (table : L
 
   -- an atom, falsum, or what is no formula
   pub judged-simple : {table′ : List ℕ} {v : Truth} → TruthPut table k v table′ → Judged key places h g t X Y v
-      → JudgedNext key slots places h g t k table table′
+      → JudgedNext key places h g t k table table′
   judged-simple {v} put judged = judged-put v put (λ room. judged)
 
   pub judged-nothing : {table′ : List ℕ} {v : Truth} {none also : Block} → v .here ≡ none → v .also ≡ none → v .there ≡ also → none ≡ allOf 0
       → also ≡ allOf 0 → (key .word ≡ 1 → ⊥) → (2 ≤ key .word → key .word ≤ 5 → ⊥) → TruthPut table k v table′
-      → JudgedNext key slots places h g t k table table′
+      → JudgedNext key places h g t k table table′
   judged-nothing p q r e f atom parts put = judged-simple put
       (subst (Judged key places h g t X Y) (sym (truth-is (p ∙ e) (q ∙ e) (r ∙ f))) (record {
         first = of-none key places (firstOf X) (firstOf Y) h t atom parts;
         second = of-none key places (secondOf X) (secondOf Y) g t atom parts;
       }))
 
-  -- the last part is one of the parts
-  last-part : 2 ≤ key .word → PartOf key (lastPart key)
-  last-part two = by (ℕ-discrete (key .word) 2)
-    where
-      by : Dec (key .word ≡ 2) → PartOf key (lastPart key)
-      by (yes e) = subst (λ (b : Bool). PartOf key (cond b (key .first) (key .second))) (sym (eq-eqb (key .word) 2 e)) (first-part two)
-      by (no n) = subst (λ (b : Bool). PartOf key (cond b (key .first) (key .second))) (sym (ne-eqb (key .word) 2 n)) (second-part (omega arith))
-
-  -- a view of its truth
-  last-view : (view : Truth → View) (b : Bool)
-      → view (truthIn table (slotOf slots (cond b (key .first) (key .second)))) ≡ cond b (view X) (view Y)
-  last-view view true = refl
-  last-view view false = refl
-
   -- a connective
-  pub judged-joined : 2 ≤ key .word → key .word ≤ 5 → {s : Signs} → Signed (key .word) s → {table′ : List ℕ} {x z : ℕ} {v x′ z′ : Truth}
-      → TruthPut table k v table′ → v ≡ joinedTruth s x′ z′ → x′ ≡ truthIn table x → z′ ≡ truthIn table z
-      → (Roomy table (slotOf slots (key .first)) → x ≡ slotOf slots (key .first))
-      → (Roomy table (slotOf slots (lastPart key)) → z ≡ slotOf slots (lastPart key)) → JudgedNext key slots places h g t k table table′
-  judged-joined two five {s} signed {v = v} put e xe ze at-x at-z = judged-put v put (λ room.
+  pub judged-joined : 2 ≤ key .word → key .word ≤ 5 → {s : Signs} → Signed (key .word) s → {table′ : List ℕ} {x y : ℕ} {v x′ y′ : Truth}
+      → TruthPut table k v table′ → v ≡ joinedTruth s x′ y′ → x′ ≡ truthIn table x → y′ ≡ truthIn table y
+      → (Roomy table (key .first) → x ≡ key .first) → (Roomy table (key .second) → y ≡ key .second) → JudgedNext key places h g t k table table′
+  judged-joined two five {s} signed {v = v} put e xe ye at-x at-y = judged-put v put (λ room.
       subst (Judged key places h g t X Y) (sym (e ∙ ap₂ (joinedTruth s)
-      (xe ∙ ap (λ (i : ℕ). truthIn table i) (at-x (room _ (first-part two))))
-      (ze ∙ ap (λ (i : ℕ). truthIn table i) (at-z (room _ (last-part two)))))) (record {
-        first = of-joined key places (firstOf X) (firstOf Y) h t two five signed _ (last-view firstOf (eqb (key .word) 2));
-        second = of-joined key places (secondOf X) (secondOf Y) g t two five signed _ (last-view secondOf (eqb (key .word) 2));
+      (xe ∙ ap (λ (i : ℕ). truthIn table i) (at-x (room two .0)))
+      (ye ∙ ap (λ (i : ℕ). truthIn table i) (at-y (room two .1))))) (record {
+        first = of-joined key places (firstOf X) (firstOf Y) h t two five signed;
+        second = of-joined key places (secondOf X) (secondOf Y) g t two five signed;
       }))
 
 -- ---- the formulas of a good body
@@ -242,19 +213,23 @@ part-earlier : {b : Body} {table : List ℕ} → Formulas b table → (i : ℕ) 
 part-earlier {b} g i l = each-node g (λ r A. (p : ℕ) → PartOf r p → p < i) i l (parts-earlier b i)
 
 -- two denials where one says no more than the other
-not-below : (a c : Bool) → (c ≡ true → a ≡ true) → (not a && not c) ≡ not a
+not-below : (a c : Bool) → (c ≡ true → a ≡ true) → (not (a && a) && not (c && c)) ≡ not a
 not-below true c f = refl
 not-below false true f = absurd (false≢true (f refl))
 not-below false false f = refl
 
-module _ {b : Body} {table : List ℕ} (g : Formulas b table) (places : List ℕ) (at : ℕ → View) (h t n h′ t′ : ℕ) (pair : Pair places h t n h′ t′)
+module _ {b : Body} {table : List ℕ} (g : Formulas b table) (slots places : List ℕ) (at : ℕ → View) (h t n h′ t′ : ℕ) (pair : Pair places h t n h′ t′)
     (inside : Included h t) where
+  -- the view of a formula
+  abbrev its : ℕ → View
+  its p = at (slotOf slots p)
+
   -- the digits of a formula are its truths in pair n
   abbrev DigitsRight : ℕ → Type 0
   DigitsRight p =
-      (digit (at p .here) n ≡ holdsIn h′ t′ (decodedAt (b .nodes) p)) × (digit (at p .there) n ≡ holdsIn t′ t′ (decodedAt (b .nodes) p))
+      (digit (its p .here) n ≡ holdsIn h′ t′ (decodedAt (b .nodes) p)) × (digit (its p .there) n ≡ holdsIn t′ t′ (decodedAt (b .nodes) p))
 
-  -- and so are those that follow from its record
+  -- and so are those that follow from its step
   abbrev Judges : NodeRecord → Formula → Type 0
   Judges r A =
       (judgedHere r places h (at (r .first)) (at (r .second)) n ≡ holdsIn h′ t′ A)
@@ -263,22 +238,25 @@ module _ {b : Body} {table : List ℕ} (g : Formulas b table) (places : List ℕ
   module _ (i : ℕ) where
     -- a connective of two operands
     two : (f : Bool → Bool → Bool → Bool → Bool) (p q : ℕ) → DigitsRight p → DigitsRight q
-        → f (digit (at p .there) n) (digit (at q .there) n) (digit (at p .here) n) (digit (at q .here) n)
+        → f (digit (its p .there) n) (digit (its q .there) n) (digit (its p .here) n) (digit (its q .here) n)
         ≡ f (holdsIn t′ t′ (decodedAt (b .nodes) p)) (holdsIn t′ t′ (decodedAt (b .nodes) q))
         (holdsIn h′ t′ (decodedAt (b .nodes) p)) (holdsIn h′ t′ (decodedAt (b .nodes) q))
-    two f p q x y = ap₂ (λ (a b : Bool). f a b (digit (at p .here) n) (digit (at q .here) n)) (x .1) (y .1) ∙ ap₂ (f _ _) (x .0) (y .0)
+    two f p q x y = ap₂ (λ (a b : Bool). f a b (digit (its p .here) n) (digit (its q .here) n)) (x .1) (y .1) ∙ ap₂ (f _ _) (x .0) (y .0)
 
     -- the formula of a node has them if its operands have
     node-right : (m : Node) → refersAhead (beforeNode b i) m ≡ false → ((p : ℕ) → PartOf (recordFrom (nodeRecord m)) p → p < i → DigitsRight p)
-        → Judges (recordFrom (nodeRecord m)) (formulaOf (formulasOf (b .nodes)) m)
-    unfolding byWord made alone holdsIn judgedHere judgedThere
+        → Judges (stepOf slots (recordFrom (nodeRecord m))) (formulaOf (formulasOf (b .nodes)) m)
+    unfolding byWord made alone holdsIn judgedHere judgedThere stepOf
     node-right Node.bot e parts = (refl, refl)
     node-right (Node.atom k) e parts =
         let l : k < 64 = omega (arith, leb-false (b .atoms) k e, good-held (g .good) .few-atoms) in
         (sym (pair .here k l), sym (pair .there k l))
     node-right (Node.not p) e parts =
         let x = parts p (first-part (omega arith)) (earlier b i (p ∷ []) e p (List·Memᴰ·head refl)) in
-        (ap₂ (λ (a c : Bool). not a && not c) (x .1) (x .0) ∙ not-below _ _ (pair-persists pair inside (decodedAt (b .nodes) p)), ap not (x .1))
+        let A = decodedAt (b .nodes) p in (
+          two (λ a b c d. not (a && b) && not (c && d)) p p x x ∙ not-below _ _ (pair-persists pair inside A),
+          two (λ a b c d. not (a && b)) p p x x ∙ ap not (and-self (holdsIn t′ t′ A)),
+        )
     node-right (Node.and p q) e parts =
         let x = parts p (first-part (omega arith)) (earlier b i (p ∷ q ∷ []) e p (List·Memᴰ·head refl)) in
         let y = parts q (second-part (omega arith)) (earlier b i (p ∷ q ∷ []) e q (List·Memᴰ·tail (List·Memᴰ·head refl))) in
@@ -292,9 +270,11 @@ module _ {b : Body} {table : List ℕ} (g : Formulas b table) (places : List ℕ
         let y = parts q (second-part (omega arith)) (earlier b i (p ∷ q ∷ []) e q (List·Memᴰ·tail (List·Memᴰ·head refl))) in
         (two (λ a b c d. (not a || b) && (not c || d)) p q x y, two (λ a b c d. not a || b) p q x y ∙ sym (and-self _))
 
-    node-judged : i < length (b .nodes) → ((p : ℕ) → PartIn table i p → DigitsRight p) → Judges (recordFrom (nodeAt table i)) (decodedAt (b .nodes) i)
+    node-judged : i < length (b .nodes) → ((p : ℕ) → PartIn table i p → DigitsRight p)
+        → Judges (stepOf slots (recordFrom (nodeAt table i))) (decodedAt (b .nodes) i)
     node-judged l right =
-        each-node g (λ r A. ((p : ℕ) → PartOf r p → p < i → DigitsRight p) → Judges r A) i l node-right (λ p o k. right p (record { part = o; before = k }))
+        each-node g (λ r A. ((p : ℕ) → PartOf r p → p < i → DigitsRight p) → Judges (stepOf slots r) A) i l node-right
+        (λ p o k. right p (record { part = o; before = k }))
 
 -- the formulas from place k of the list on have a slot there, or after
 slot-after : {b : Body} {formulas list slots : List ℕ} → Ready b formulas list slots → (k x : ℕ) → x ∈ drop k list
@@ -308,42 +288,48 @@ slot-after {list = list} {slots} ready k x m =
     (omega arith, omega arith)
 
 -- the formulas from place k of the list on are judged
-pub record JudgedFrom (formulas list slots places : List ℕ) (h g t : ℕ) (table₀ table : List ℕ) (k : ℕ) : Type 0 where
-  pub within : k ≤ length list
+pub record JudgedFrom (steps : List ℕ) (count : ℕ) (places : List ℕ) (h g t : ℕ) (table₀ table : List ℕ) (k : ℕ) : Type 0 where
+  pub within : k ≤ count
   pub long : length table ≡ length table₀
   pub right :
-      (b : Body) → Ready b formulas list slots → truthWords * length list ≤ length table₀ → Included h t → Included g t
+      (b : Body) (formulas list slots : List ℕ) → Ready b formulas list slots → Steps formulas list slots steps count
+      → truthWords * count ≤ length table₀ → Included h t → Included g t
       → (x : ℕ) → x ∈ drop k list → Right b places h g t x (truthIn table (slotOf slots x))
 
-module _ (formulas list slots places : List ℕ) (h g t : ℕ) (table₀ : List ℕ) where
-  pub judged-none : JudgedFrom formulas list slots places h g t table₀ table₀ (length list)
+module _ (steps : List ℕ) (count : ℕ) (places : List ℕ) (h g t : ℕ) (table₀ : List ℕ) where
+  pub judged-none : JudgedFrom steps count places h g t table₀ table₀ count
   judged-none = record {
     within = omega arith;
     long = refl;
-    right = λ b r m u v x i. absurd (List·Memᴰ·not-nil (subst (λ (xs : List ℕ). x ∈ xs) (drop-length list) i));
+    right = λ b formulas list slots r s m u v x i.
+        absurd (List·Memᴰ·not-nil (subst (λ (xs : List ℕ). x ∈ xs) (ap (λ (n : ℕ). drop n list) (sym (s .many)) ∙ drop-length list) i));
   }
 
   -- the one before it too
-  module _ {table : List ℕ} {k j : ℕ} (s : JudgedFrom formulas list slots places h g t table₀ table k) (0<k : 0 < k) (e : j ≡ k - 1)
-      (key : NodeRecord) (its : key ≡ recordFrom (nodeAt formulas (getD list j 0))) {table′ : List ℕ}
-      (judged : JudgedNext key slots places h g t j table table′) where
-    low : j < length list
-    low = omega (arith, s .within)
+  module _ {table : List ℕ} {k j : ℕ} (s : JudgedFrom steps count places h g t table₀ table k) (0<k : 0 < k) (e : j ≡ k - 1)
+      (key : NodeRecord) (its-key : key ≡ recordFrom (nodeAt steps j)) {table′ : List ℕ}
+      (judged : JudgedNext key places h g t j table table′) where
+    module _ (b : Body) (formulas list slots : List ℕ) (ready : Ready b formulas list slots) (held : Steps formulas list slots steps count)
+        (room : truthWords * count ≤ length table₀) (in-h : Included h t) (in-g : Included g t) where
+      low : j < length list
+      low = omega (arith, s .within, held .many)
 
-    after : (x : ℕ) → x ∈ drop (suc j) list → x ∈ drop k list
-    after x m = let next : suc j ≡ k = omega arith in subst (λ (z : ℕ). x ∈ drop z list) next m
+      after : (x : ℕ) → x ∈ drop (suc j) list → x ∈ drop k list
+      after x m = let next : suc j ≡ k = omega arith in subst (λ (z : ℕ). x ∈ drop z list) next m
 
-    module _ (b : Body) (ready : Ready b formulas list slots) (room : truthWords * length list ≤ length table₀) (in-h : Included h t)
-        (in-g : Included g t) where
+      before : (x : ℕ) → x ∈ drop k list → Right b places h g t x (truthIn table (slotOf slots x))
+      before = s .right b formulas list slots ready held room in-h in-g
+
       -- what was judged before
       later : (x : ℕ) → x ∈ drop (suc j) list → Right b places h g t x (truthIn table′ (slotOf slots x))
       later x m =
           let slot = slot-after ready k x (after x m) in
-          subst (Right b places h g t x) (sym (judged .others (slotOf slots x) (λ same. omega (arith, slot .0)))) (s .right b ready room in-h in-g x (after x m))
+          subst (Right b places h g t x) (sym (judged .others (slotOf slots x) (λ same. omega (arith, slot .0)))) (before x (after x m))
 
       module _ (i : ℕ) (is : i ≡ getD list j 0) where
-        its′ : key ≡ recordFrom (nodeAt formulas i)
-        its′ = its ∙ ap (λ (x : ℕ). recordFrom (nodeAt formulas x)) (sym is)
+        step : key ≡ stepOf slots (recordFrom (nodeAt formulas i))
+        step =
+            its-key ∙ held .each j (omega (arith, low, held .many)) ∙ ap (λ (x : ℕ). stepOf slots (recordFrom (nodeAt formulas x))) (sym is)
 
         known : i < length (b .nodes)
         known = ready .known i (subst (λ (x : ℕ). x ∈ list) (sym is) (in-getD list j 0 low))
@@ -354,46 +340,46 @@ module _ (formulas list slots places : List ℕ) (h g t : ℕ) (table₀ : List 
         roomy : (p : ℕ) → PartOf (recordFrom (nodeAt formulas i)) p → Roomy table (slotOf slots p)
         roomy p part =
             let slot = slot-after ready k p (listed p (record { part = part; before = part-earlier (ready .held) i known p part })) in
-            omega (arith, slot .1, s .long)
+            omega (arith, slot .1, s .long, held .many)
 
-        digits : Judged key places h g t (truthIn table (slotOf slots (key .first))) (truthIn table (slotOf slots (key .second))) (truthIn table′ j)
-        digits = judged .own (λ p part. roomy p (subst (λ (r : NodeRecord). PartOf r p) its′ part))
+        digits : Judged key places h g t (truthIn table (key .first)) (truthIn table (key .second)) (truthIn table′ j)
+        digits = judged .own (λ two. subst (λ (r : NodeRecord). Roomy table (r .first) × Roomy table (r .second)) (sym step)
+            (step-parts slots _ (Roomy table) roomy (subst (λ (r : NodeRecord). 2 ≤ r .word) step two)))
 
         -- with one smaller set
         seen : (view : Truth → View) (h : ℕ) → Included h t → ((p : ℕ) → p ∈ drop k list → Seen b places h t p (view (truthIn table (slotOf slots p))))
-            → JudgedSeen key places h t (view (truthIn table (slotOf slots (key .first)))) (view (truthIn table (slotOf slots (key .second))))
-            (view (truthIn table′ j))
+            → JudgedSeen key places h t (view (truthIn table (key .first))) (view (truthIn table (key .second))) (view (truthIn table′ j))
             → Seen b places h t i (view (truthIn table′ j))
         seen view h inside parts own n l h′ t′ pair =
-            let right = node-judged (ready .held) places (λ p. view (truthIn table (slotOf slots p))) h t n h′ t′ pair inside i known
+            let right = node-judged (ready .held) slots places (λ k. view (truthIn table k)) h t n h′ t′ pair inside i known
             (λ p part. parts p (listed p part) n l h′ t′ pair) in
-            let one = subst (λ (r : NodeRecord). JudgedSeen r places h t (view (truthIn table (slotOf slots (r .first))))
-            (view (truthIn table (slotOf slots (r .second)))) (view (truthIn table′ j))) its′ own n l in
+            let one = subst (λ (r : NodeRecord). JudgedSeen r places h t (view (truthIn table (r .first))) (view (truthIn table (r .second)))
+            (view (truthIn table′ j))) step own n l in
             (one .0 ∙ right .0, one .1 ∙ right .1)
 
         -- the formula itself
         own : Right b places h g t i (truthIn table′ (slotOf slots i))
         own = subst (λ (k : ℕ). Right b places h g t i (truthIn table′ k)) (sym (ap (slotOf slots) is ∙ ready .placed j low)) (record {
-          first = seen firstOf h in-h (λ p m. s .right b ready room in-h in-g p m .first) (digits .first);
-          second = seen secondOf g in-g (λ p m. s .right b ready room in-h in-g p m .second) (digits .second);
+          first = seen firstOf h in-h (λ p m. before p m .first) (digits .first);
+          second = seen secondOf g in-g (λ p m. before p m .second) (digits .second);
         })
 
-    pub judged-next : JudgedFrom formulas list slots places h g t table₀ table′ j
+    pub judged-next : JudgedFrom steps count places h g t table₀ table′ j
     judged-next = record {
       within = omega (arith, s .within);
       long = judged .long ∙ s .long;
-      right = λ b ready room in-h in-g x m.
-          ⊎-elim (own b ready room in-h in-g x) (later b ready room in-h in-g x)
-          (List·Memᴰ·cases-cons (subst (λ (xs : List ℕ). x ∈ xs) (drop-cons list j 0 low) m));
+      right = λ b formulas list slots r d m u v x i.
+          ⊎-elim (own b formulas list slots r d m u v x) (later b formulas list slots r d m u v x)
+          (List·Memᴰ·cases-cons (subst (λ (xs : List ℕ). x ∈ xs) (drop-cons list j 0 (low b formulas list slots r d m u v)) i));
     }
 
-  pub judged-whole : {table : List ℕ} {k : ℕ} → JudgedFrom formulas list slots places h g t table₀ table k → k ≡ 0
-      → JudgedAll formulas list slots places h g t table₀ table
+  pub judged-whole : {table : List ℕ} {k : ℕ} → JudgedFrom steps count places h g t table₀ table k → k ≡ 0
+      → JudgedAll steps count places h g t table₀ table
   judged-whole s e = record {
     long = s .long;
-    right = λ b r m u v x i. s .right b r m u v x (subst (λ (z : ℕ). x ∈ drop z list) (sym e) i);
+    right = λ b formulas list slots r d m u v x i. s .right b formulas list slots r d m u v x (subst (λ (z : ℕ). x ∈ drop z list) (sym e) i);
   }
 
   -- there is no room for the list
-  pub judged-not : length table₀ < truthWords * length list → JudgedAll formulas list slots places h g t table₀ table₀
-  judged-not l = record { long = refl; right = λ b r m. absurd (omega arith) }
+  pub judged-not : length table₀ < truthWords * count → JudgedAll steps count places h g t table₀ table₀
+  judged-not l = record { long = refl; right = λ b formulas list slots r d m. absurd (omega arith) }

@@ -21,7 +21,8 @@ use Rattle.pairs.specs.Pairs.{holdsIn}
 use Rattle.pairs.proofs.Pairs.{holds-in-iff}
 use Rattle.alike.specs.Blocks.{SameWords, hereIn, alsoIn, truthIn}
 use Rattle.alike.specs.declared.blocks.Block.{Block}
-use Rattle.alike.specs.Truths.{innerPlaces, third, hereAt, thereAt, placeOf, View, slotOf, Pair, Seen, Right}
+use Rattle.alike.specs.Under.{slotOf}
+use Rattle.alike.specs.Truths.{innerPlaces, third, hereAt, thereAt, placeOf, View, Pair, Seen, Right}
 use Rattle.alike.specs.Survivors.{SameHere, AlikeAt}
 use Rattle.alike.proofs.BlockDigits.{Small, same-digits, here-small, also-small}
 

@@ -12,7 +12,8 @@ use Rattle.pairs.specs.Parts.{part}
 use Rattle.pairs.specs.Pairs.{holdsIn}
 use Rattle.sides.specs.Deciding.{Decides}
 use Rattle.alike.specs.Blocks.{pairsAtOnce, SameWords, truthWords, hereIn, alsoIn}
-use Rattle.alike.specs.Truths.{slotOf, Pair, Ready}
+use Rattle.alike.specs.Under.{slotOf, Steps}
+use Rattle.alike.specs.Truths.{Pair, Ready}
 
 -- the most places
 abbrev pub mostPlaces : ℕ
@@ -47,29 +48,41 @@ pub record Prepared (b : Body) (formulas list slots : List ℕ) (a : ℕ) (side 
   pub own : a ∈ list
   pub candidates : (c : ℕ) → Member c alive → getD side c 0 ∈ list
 
--- a table has room for the truths of a list
-abbrev pub RoomFor : List ℕ → List ℕ → Type 0
-RoomFor list table = truthWords * length list ≤ length table
+-- and these are the steps of one
+pub record Given (b : Body) (steps : List ℕ) (count : ℕ) (slots : List ℕ) (a : ℕ) (side : List ℕ) (alive : ℕ) : Type 0 where
+  pub formulas : List ℕ
+  pub list : List ℕ
+  pub prepared : Prepared b formulas list slots a side alive
+  pub steps-held : Steps formulas list slots steps count
+
+-- a table has room for so many truths
+abbrev pub RoomFor : ℕ → List ℕ → Type 0
+RoomFor count table = truthWords * count ≤ length table
 
 -- the candidates that remain are those of which it holds
 abbrev pub Remain : (ℕ → Type 0) → ℕ → ℕ → Type 0
 Remain P alive kept = (c : ℕ) → Member c kept ↔ (Member c alive × P c)
 
-pub record AlikeBelow (formulas list slots places : List ℕ) (t a : ℕ) (side : List ℕ) (alive : ℕ) (table table′ : List ℕ) (kept : ℕ) : Type 0 where
+pub record AlikeBelow (steps : List ℕ) (count : ℕ) (slots places : List ℕ) (t a : ℕ) (side : List ℕ) (alive : ℕ) (table table′ : List ℕ) (kept : ℕ)
+    : Type 0 where
   pub long : length table′ ≡ length table
   pub remain :
-      (b : Body) → Prepared b formulas list slots a side alive → RoomFor list table
+      (b : Body) → Given b steps count slots a side alive → RoomFor count table
       → Remain (λ c. AlikeUnder b places t a (getD side c 0)) alive kept
 
-pub record AlikeAll (formulas list slots places : List ℕ) (outer a : ℕ) (side : List ℕ) (alive : ℕ) (table : List ℕ) (kept : ℕ) : Type 0 where
+pub record AlikeAll (steps : List ℕ) (count : ℕ) (slots places : List ℕ) (outer a : ℕ) (side : List ℕ) (alive : ℕ) (table : List ℕ) (kept : ℕ) : Type 0 where
   pub remain :
-      (b : Body) → Prepared b formulas list slots a side alive → RoomFor list table
+      (b : Body) → Given b steps count slots a side alive → RoomFor count table
       → Remain (λ c. AlikeOver b places outer a (getD side c 0)) alive kept
 
 -- one of the candidates is alike in all pairs of places
 abbrev pub OneAlike : Body → List ℕ → ℕ → ℕ → List ℕ → ℕ → Type 0
 OneAlike b places outer a side candidates = (c : ℕ) × Member c candidates × AlikeOver b places outer a (getD side c 0)
 
--- the answer says whether one is
-pub record AnyAlike (formulas list slots places : List ℕ) (outer a : ℕ) (side : List ℕ) (candidates : ℕ) (r : Bool) : Type 0 where
+-- the answer says whether one is, by the steps of a list
+pub record AnyAlike (steps : List ℕ) (count : ℕ) (slots places : List ℕ) (outer a : ℕ) (side : List ℕ) (candidates : ℕ) (r : Bool) : Type 0 where
+  pub decides : (b : Body) → Given b steps count slots a side candidates → Decides (OneAlike b places outer a side candidates) r
+
+-- and by the list
+pub record AnyListed (formulas list slots places : List ℕ) (outer a : ℕ) (side : List ℕ) (candidates : ℕ) (r : Bool) : Type 0 where
   pub decides : (b : Body) → Prepared b formulas list slots a side candidates → Decides (OneAlike b places outer a side candidates) r

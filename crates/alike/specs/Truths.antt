@@ -14,7 +14,7 @@ use Rattle.tables.specs.declared.records.NodeRecord.{NodeRecord}
 use Rattle.pairs.specs.Pairs.{holdsIn}
 use Rattle.pairs.specs.Truths.{byWord}
 use Rattle.alike.specs.Blocks.{pairsAtOnce, digit, truthWords, truthIn, Roomy}
-use Rattle.alike.specs.Under.{PartOf, PartsAfter}
+use Rattle.alike.specs.Under.{PartsAfter, slotOf, Steps}
 use Rattle.alike.specs.declared.blocks.Block.{Block}
 use Rattle.alike.specs.declared.blocks.Signs.{Signs}
 use Rattle.alike.specs.declared.blocks.Truth.{Truth}
@@ -59,15 +59,15 @@ pub record PlaceTruth (place h g t : ℕ) (v : Truth) : Type 0 where
   pub first : PlaceSeen place h t (firstOf v)
   pub second : PlaceSeen place g t (secondOf v)
 
--- what a connective makes of the truths of its parts, a negation of the first alone
+-- what a connective makes of the truths of its parts; a negation has its part twice
 unfoldable pub made : ℕ → Bool → Bool → Bool
-made word A B = byWord word false (not A) (A && B) (A || B) (not A || B)
+made word A B = byWord word false (not (A && B)) (A && B) (A || B) (not A || B)
 
 -- a conjunction and a disjunction look at the pair alone
 unfoldable pub alone : ℕ → Bool
 alone word = eqb word 3 || eqb word 4
 
--- The truth in (t,t) of pair n of the formula of a record, where x and y are the truths of its parts; and in the pair itself, where its
+-- The truth in (t,t) of pair n of the formula of a step, where x and y are the truths of its parts; and in the pair itself, where its
 -- connective has to make it so of the parts' truths in the pair, and in (t,t) too if it does not look at the pair alone.
 unfoldable pub judgedThere : NodeRecord → List ℕ → ℕ → View → View → ℕ → Bool
 judgedThere r places t x y n =
@@ -86,10 +86,6 @@ pub record Signed (word : ℕ) (s : Signs) : Type 0 where
   pub whole : (i : ℕ) → i < 64 → has (s .whole) i ≡ not (eqb word 3)
   pub alone : (i : ℕ) → i < 64 → has (s .alone) i ≡ alone word
 
--- the last part of a formula: its second, or the first where it has one alone
-abbrev pub lastPart : NodeRecord → ℕ
-lastPart r = cond (eqb (r .word) 2) (r .first) (r .second)
-
 -- a truth says so of all pairs
 abbrev pub JudgedSeen : NodeRecord → List ℕ → ℕ → ℕ → View → View → View → Type 0
 JudgedSeen r places h t x y v =
@@ -99,17 +95,12 @@ pub record Judged (r : NodeRecord) (places : List ℕ) (h g t : ℕ) (x y v : Tr
   pub first : JudgedSeen r places h t (firstOf x) (firstOf y) (firstOf v)
   pub second : JudgedSeen r places g t (secondOf x) (secondOf y) (secondOf v)
 
--- the slot of a formula
-abbrev pub slotOf : List ℕ → ℕ → ℕ
-slotOf slots i = getD slots i 0
-
--- Slot k has the truth of the formula of a record by those at its parts' slots, if the table has these; the other slots have what they
--- had.
-pub record JudgedNext (r : NodeRecord) (slots places : List ℕ) (h g t k : ℕ) (table table′ : List ℕ) : Type 0 where
+-- Slot k has the truth of a step by those at the slots of its parts, if the table has these; the other slots have what they had.
+pub record JudgedNext (r : NodeRecord) (places : List ℕ) (h g t k : ℕ) (table table′ : List ℕ) : Type 0 where
   pub long : length table′ ≡ length table
   pub own :
-      ((p : ℕ) → PartOf r p → Roomy table (slotOf slots p))
-      → Judged r places h g t (truthIn table (slotOf slots (r .first))) (truthIn table (slotOf slots (r .second))) (truthIn table′ k)
+      (2 ≤ r .word → Roomy table (r .first) × Roomy table (r .second))
+      → Judged r places h g t (truthIn table (r .first)) (truthIn table (r .second)) (truthIn table′ k)
   pub others : (i : ℕ) → (i ≡ k → ⊥) → truthIn table′ i ≡ truthIn table i
 
 -- pair n, as two sets of atoms: an atom is in one if its place is
@@ -137,8 +128,9 @@ pub record Ready (b : Body) (formulas list slots : List ℕ) : Type 0 where
   pub placed : (k : ℕ) → k < length list → slotOf slots (getD list k 0) ≡ k
 
 -- the table keeps its length; where it has room for such a list, it has the truths of the formulas there in pairs (h,t) and (g,t)
-pub record JudgedAll (formulas list slots places : List ℕ) (h g t : ℕ) (table table′ : List ℕ) : Type 0 where
+pub record JudgedAll (steps : List ℕ) (count : ℕ) (places : List ℕ) (h g t : ℕ) (table table′ : List ℕ) : Type 0 where
   pub long : length table′ ≡ length table
   pub right :
-      (b : Body) → Ready b formulas list slots → truthWords * length list ≤ length table → Included h t → Included g t
+      (b : Body) (formulas list slots : List ℕ) → Ready b formulas list slots → Steps formulas list slots steps count
+      → truthWords * count ≤ length table → Included h t → Included g t
       → (i : ℕ) → i ∈ list → Right b places h g t i (truthIn table′ (slotOf slots i))

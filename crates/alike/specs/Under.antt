@@ -1,10 +1,12 @@
--- The formulas under some that are marked, listed so that backwards each comes after its parts.
-use Prim.Native.Nat.{ℕ, suc, _≤_, _<_}
+-- The formulas under some that are marked, listed so that backwards each comes after its parts, and their records with slots for parts.
+use Prim.Native.Nat.{ℕ, suc, _*_, _≤_, _<_}
+use mathlib.Core.Bool.{cond}
 use mathlib.Core.List.{List}
 use mathlib.Core.Path.{_≡_}
+use lib.Dec.{eqb, ltb}
 use lib.ListN.{length, getD, take, drop}
 use Rattle.equilibrium.specs.Meaning.{_∈_}
-use Rattle.format.specs.Tables.{mostFormulas}
+use Rattle.format.specs.Tables.{mostFormulas, nodeWidth}
 use Rattle.tables.specs.Records.{nodeAt, recordFrom}
 use Rattle.tables.specs.declared.records.NodeRecord.{NodeRecord}
 
@@ -54,3 +56,25 @@ pub record Listed (formulas : List ℕ) (end : ℕ) (marks list slots : List ℕ
   pub below : (x : ℕ) → x ∈ take n list → x < end
   pub ordered : PartsAfter formulas (take n list)
   pub placed : (k : ℕ) → k < n → getD slots (getD (take n list) k 0) 0 ≡ k
+
+-- the slot of a formula
+abbrev pub slotOf : List ℕ → ℕ → ℕ
+slotOf slots i = getD slots i 0
+
+-- the last part of a formula: its second, or the first where it has one alone
+abbrev pub lastPart : NodeRecord → ℕ
+lastPart r = cond (eqb (r .word) 2) (r .first) (r .second)
+
+-- the step of a formula: its record, with the slots of its first and last part where it has parts
+unfoldable pub stepOf : List ℕ → NodeRecord → NodeRecord
+stepOf slots r = cond (ltb (r .word) 2) r (record { word = r .word; first = slotOf slots (r .first); second = slotOf slots (lastPart r) })
+
+-- the steps of a list of so many formulas are in a table, one record each
+pub record Steps (formulas list slots steps : List ℕ) (count : ℕ) : Type 0 where
+  pub many : length list ≡ count
+  pub each : (k : ℕ) → k < count → recordFrom (nodeAt steps k) ≡ stepOf slots (recordFrom (nodeAt formulas (getD list k 0)))
+
+-- they are, where the table has room for them
+pub record StepsFilled (formulas list slots before after : List ℕ) : Type 0 where
+  pub long : length after ≡ length before
+  pub filled : nodeWidth * length list ≤ length before → Steps formulas list slots after (length list)

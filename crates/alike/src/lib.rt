@@ -3,6 +3,7 @@
 // 256 pairs at a time.
 mod blocks;
 mod places;
+mod steps;
 mod survivors;
 mod truths;
 mod under;
@@ -15,13 +16,14 @@ ghost use lib.ListN.{length, getD};
 ghost use Rattle.atomset.specs.AtomSet.{Member};
 ghost use Rattle.format.specs.Tables.{mostFormulas};
 ghost use Rattle.alike.specs.Under.{Room};
-ghost use Rattle.alike.specs.Survivors.{mostPlaces, fewListed, Remain, AnyAlike};
+ghost use Rattle.alike.specs.Survivors.{mostPlaces, fewListed, Remain, AnyListed};
 ghost use Rattle.alike.specs.Places.{Seated};
 ghost use Rattle.alike.specs.Alike.{atomsAt, Few, CandidatesMarked, Bounded, SomeAlike, SomeEqual, Grouped, GroupJudged, CandidatesNumbered};
 use crate::places::NO_PLACE;
 use crate::places::outer_places;
 use crate::places::seat;
 use crate::places::seat_too;
+use crate::steps::fill_steps;
 use crate::survivors::any_alike;
 use crate::survivors::formula_at;
 use crate::under::list_under;
@@ -46,10 +48,14 @@ const MOST_SWAPPED: usize = 8;
 // The most formulas of a short list.
 const FEW_LISTED: usize = 32;
 
-// The words for the truths of a short list, and of any.
+// The words for the truths of a short list, and of any; and the numbers of their steps.
 const FEW_WORDS: usize = 384;
 
 const MOST_WORDS: usize = 12288;
+
+const FEW_NUMBERS: usize = 96;
+
+const MOST_NUMBERS: usize = 3072;
 
 // Candidates judged together, and whether one of them is equal to the formula.
 struct Group {
@@ -130,13 +136,15 @@ fn alike_few(
     candidates: u64,
 ) -> bool
     requires { ⌜ (outer < 2 ^ mostPlaces) × (length (now list) ≤ fewListed) ⌝ }
-    ensures { λ r. ⌜ AnyAlike (now (formulas .entry)) (now (list .entry)) (now (slots .entry)) (now (places .entry)) outer own (now (side .entry))
+    ensures { λ r. ⌜ AnyListed (now (formulas .entry)) (now (list .entry)) (now (slots .entry)) (now (places .entry)) outer own (now (side .entry))
         candidates r ⌝ }
 {
     let mut table = [0u64; FEW_WORDS];
+    let mut steps = [0u16; FEW_NUMBERS];
+    fill_steps(formulas, list, slots, &mut steps);
     any_alike(
-        formulas,
-        list,
+        &steps,
+        list.len(),
         slots,
         places,
         outer,
@@ -159,13 +167,15 @@ fn alike_many(
     candidates: u64,
 ) -> bool
     requires { ⌜ (outer < 2 ^ mostPlaces) × (length (now list) ≤ mostFormulas) ⌝ }
-    ensures { λ r. ⌜ AnyAlike (now (formulas .entry)) (now (list .entry)) (now (slots .entry)) (now (places .entry)) outer own (now (side .entry))
+    ensures { λ r. ⌜ AnyListed (now (formulas .entry)) (now (list .entry)) (now (slots .entry)) (now (places .entry)) outer own (now (side .entry))
         candidates r ⌝ }
 {
     let mut table = [0u64; MOST_WORDS];
+    let mut steps = [0u16; MOST_NUMBERS];
+    fill_steps(formulas, list, slots, &mut steps);
     any_alike(
-        formulas,
-        list,
+        &steps,
+        list.len(),
         slots,
         places,
         outer,

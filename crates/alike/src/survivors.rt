@@ -10,8 +10,8 @@ ghost use Rattle.alike.specs.Survivors.{SameHere, mostPlaces, RoomFor, A
 use crate::blocks::also_in;
 use crate::blocks::here_in;
 use crate::blocks::same_both;
+use crate::steps::slot_of;
 use crate::truths::judge_listed;
-use crate::truths::slot_of;
 use atomset::count;
 use atomset::first;
 use atomset::insert;
@@ -61,8 +61,8 @@ fn less_of(a: u64, b: u64) -> u64
 
 // The candidates that are alike with one t, in all its parts h.
 fn alike_below(
-    formulas: &[u16],
-    list: &[u16],
+    steps: &[u16],
+    listed: usize,
     slots: &[u16],
     places: &[u64],
     t: u64,
@@ -72,7 +72,7 @@ fn alike_below(
     table: &mut [u64],
 ) -> u64
     requires { ⌜ t < 2 ^ mostPlaces ⌝ }
-    ensures { λ r. ⌜ AlikeBelow (now (formulas .entry)) (now (list .entry)) (now (slots .entry)) (now (places .entry)) t own (now (side .entry)) alive
+    ensures { λ r. ⌜ AlikeBelow (now (steps .entry)) listed (now (slots .entry)) (now (places .entry)) t own (now (side .entry)) alive
         (now (table .entry)) (now (table .exit)) r ⌝ }
 {
     let last = 1u64 << count(t);
@@ -83,7 +83,7 @@ fn alike_below(
             return 0;
         }
         let next = part_of(t, less_of(n + 1, last - 1));
-        judge_listed(formulas, list, slots, places, part_of(t, n), next, t, table);
+        judge_listed(steps, listed, places, part_of(t, n), next, t, table);
         kept = still_alike(table, slots, own, side, kept);
         n += 2;
     }
@@ -92,8 +92,8 @@ fn alike_below(
 
 // The candidates that are alike in all pairs.
 fn alike_all(
-    formulas: &[u16],
-    list: &[u16],
+    steps: &[u16],
+    listed: usize,
     slots: &[u16],
     places: &[u64],
     outer: u64,
@@ -103,7 +103,7 @@ fn alike_all(
     table: &mut [u64],
 ) -> u64
     requires { ⌜ outer < 2 ^ mostPlaces ⌝ }
-    ensures { λ r. ⌜ AlikeAll (now (formulas .entry)) (now (list .entry)) (now (slots .entry)) (now (places .entry)) outer own (now (side .entry)) alive
+    ensures { λ r. ⌜ AlikeAll (now (steps .entry)) listed (now (slots .entry)) (now (places .entry)) outer own (now (side .entry)) alive
         (now (table .entry)) r ⌝ }
 {
     let last = 1u64 << count(outer);
@@ -114,8 +114,8 @@ fn alike_all(
             return 0;
         }
         kept = alike_below(
-            formulas,
-            list,
+            steps,
+            listed,
             slots,
             places,
             part_of(outer, m),
@@ -131,8 +131,8 @@ fn alike_all(
 
 // Whether one of the candidates is alike in all pairs.
 pub(crate) fn any_alike(
-    formulas: &[u16],
-    list: &[u16],
+    steps: &[u16],
+    listed: usize,
     slots: &[u16],
     places: &[u64],
     outer: u64,
@@ -141,13 +141,13 @@ pub(crate) fn any_alike(
     candidates: u64,
     table: &mut [u64],
 ) -> bool
-    requires { ⌜ (outer < 2 ^ mostPlaces) × RoomFor (now list) (now table) ⌝ }
-    ensures { λ r. ⌜ AnyAlike (now (formulas .entry)) (now (list .entry)) (now (slots .entry)) (now (places .entry)) outer own (now (side .entry))
+    requires { ⌜ (outer < 2 ^ mostPlaces) × RoomFor listed (now table) ⌝ }
+    ensures { λ r. ⌜ AnyAlike (now (steps .entry)) listed (now (slots .entry)) (now (places .entry)) outer own (now (side .entry))
         candidates r ⌝ }
 {
     !is_empty(alike_all(
-        formulas,
-        list,
+        steps,
+        listed,
         slots,
         places,
         outer,

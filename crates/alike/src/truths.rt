@@ -7,7 +7,7 @@ ghost use Prim.Native.Nat.{ℕ, _<_};
 ghost use mathlib.Core.Path.{_≡_};
 ghost use Rattle.atomset.specs.AtomSet.{has};
 ghost use Rattle.alike.specs.Blocks.{pairsAtOnce, digit, Roomy};
-ghost use Rattle.alike.specs.Truths.{slotOf, PlaceTruth, Signed, lastPart, JudgedNext, JudgedAll};
+ghost use Rattle.alike.specs.Truths.{PlaceTruth, Signed, JudgedNext, JudgedAll};
 use crate::blocks::Block;
 use crate::blocks::Signs;
 use crate::blocks::TRUTH_WORDS;
@@ -146,26 +146,15 @@ fn truth_of_place(place: u64, h: u64, g: u64, t: u64) -> Truth
     }
 }
 
-// The slot of a formula.
-pub(crate) fn slot_of(slots: &[u16], formula: usize) -> u16
-    ensures { λ r. ⌜ r ≡ slotOf (now (slots .entry)) formula ⌝ }
-{
-    if formula >= slots.len() {
-        return 0;
-    }
-    slots[formula]
-}
-
-// The same as far as a table has rooms, else 0.
-fn slot_within(slots: &[u16], formula: usize, rooms: usize) -> usize
+// A slot as far as a table has rooms, else 0.
+fn within(slot: u16, rooms: usize) -> usize
     requires { ⌜ 0 < rooms ⌝ }
-    ensures { λ r. ⌜ (r < rooms) × (slotOf (now (slots .entry)) formula < rooms → r ≡ slotOf (now (slots .entry)) formula) ⌝ }
+    ensures { λ r. ⌜ (r < rooms) × (slot < rooms → r ≡ slot) ⌝ }
 {
-    let slot = wide(slot_of(slots, formula));
-    if slot >= rooms {
+    if wide(slot) >= rooms {
         return 0;
     }
-    slot
+    wide(slot)
 }
 
 // The signs of a connective.
@@ -180,82 +169,48 @@ fn signs_of(connective: u16) -> Signs
     }
 }
 
-// The last part of a formula: a negation has one alone.
-fn last_part(key: NodeRecord) -> u16
-    ensures { λ r. ⌜ r ≡ lastPart key ⌝ }
-{
-    if key.word == NOT {
-        return key.first;
-    }
-    key.second
-}
-
-// Puts the truth of the formula of a record at slot k, by that of its parts. All connectives take one way: jumps by the connective are
+// Puts the truth of a step at slot k, by those at the slots of its parts. All connectives take one way: jumps by the connective are
 // guessed wrong so often that they take as long as all else.
-fn judge(
-    key: NodeRecord,
-    slots: &[u16],
-    places: &[u64],
-    h: u64,
-    g: u64,
-    t: u64,
-    k: usize,
-    table: &mut [u64],
-)
+fn judge(step: NodeRecord, places: &[u64], h: u64, g: u64, t: u64, k: usize, table: &mut [u64])
     requires { ⌜ Roomy (now table) k ⌝ }
-    ensures { λ _. ⌜ JudgedNext key (now (slots .entry)) (now (places .entry)) h g t k (now (table .entry)) (now (table .exit)) ⌝ }
+    ensures { λ _. ⌜ JudgedNext step (now (places .entry)) h g t k (now (table .entry)) (now (table .exit)) ⌝ }
 {
-    if key.word == ATOM {
+    if step.word == ATOM {
         put_truth(
             table,
             k,
-            truth_of_place(note(places, wide(key.first)), h, g, t),
+            truth_of_place(note(places, wide(step.first)), h, g, t),
         );
         return;
     }
-    if key.word < NOT || IMP < key.word {
+    if step.word < NOT || IMP < step.word {
         put_truth(table, k, at_all(all_of_one(0), all_of_one(0)));
         return;
     }
     let rooms = table.len() / TRUTH_WORDS;
-    let x = slot_within(slots, wide(key.first), rooms);
-    let y = slot_within(slots, wide(last_part(key)), rooms);
-    put_truth(
-        table,
-        k,
-        joined_truth(truth_in(table, x), truth_in(table, y), signs_of(key.word)),
-    );
+    let x = truth_in(table, within(step.first, rooms));
+    let y = truth_in(table, within(step.second, rooms));
+    put_truth(table, k, joined_truth(x, y, signs_of(step.word)));
 }
 
-// Puts the truths of the formulas of a list at their slots, the last one first.
+// Puts the truths of the first steps at their slots, the last one first.
 pub(crate) fn judge_listed(
-    formulas: &[u16],
-    list: &[u16],
-    slots: &[u16],
+    steps: &[u16],
+    listed: usize,
     places: &[u64],
     h: u64,
     g: u64,
     t: u64,
     table: &mut [u64],
 )
-    ensures { λ _. ⌜ JudgedAll (now (formulas .entry)) (now (list .entry)) (now (slots .entry)) (now (places .entry)) h g t (now (table .entry))
-        (now (table .exit)) ⌝ }
+    ensures { λ _. ⌜ JudgedAll (now (steps .entry)) listed (now (places .entry)) h g t (now (table .entry)) (now (table .exit)) ⌝ }
 {
-    if list.len() > table.len() / TRUTH_WORDS {
+    if listed > table.len() / TRUTH_WORDS {
         return;
     }
-    let mut k = list.len();
+    let mut k = listed;
     while 0 < k {
         k -= 1;
-        judge(
-            node(formulas, wide(list[k])),
-            slots,
-            places,
-            h,
-            g,
-            t,
-            k,
-            table,
-        );
+        judge(node(steps, k), places, h, g, t, k, table);
     }
 }

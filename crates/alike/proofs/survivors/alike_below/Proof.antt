@@ -12,28 +12,28 @@ use Rattle.alike.proofs.survivors.alike_below.Statement.{statement}
 use Rattle.alike.proofs.survivors.alike_below.Tie as tie
 
 abbrev Inv-loop : tie.InvT-loop
-Inv-loop formulas list slots places t own side alive table₀ last kept₀ n₀ table kept n =
-    (last ≡ 2 ^ length (members t)) × (last ≤ 256) × BelowSoFar formulas list slots places t own side alive table₀ table kept n
+Inv-loop steps listed slots places t own side alive table₀ last kept₀ n₀ table kept n =
+    (last ≡ 2 ^ length (members t)) × (last ≤ 256) × BelowSoFar steps listed slots places t own side alive table₀ table kept n
 
 abbrev μ-loop : tie.MeasureT-loop
-μ-loop formulas list slots places t own side alive table₀ last kept₀ n₀ table kept n = last - n
+μ-loop steps listed slots places t own side alive table₀ last kept₀ n₀ table kept n = last - n
 
 count-requires : tie.Need-count-requires Inv-loop μ-loop
 count-requires c κs = search needs
 
 shl-last : tie.Need-shl-last Inv-loop μ-loop
 shl-last c =
-    let start = c .before .before .before .before .before .before .before in
+    let start = c .before .before .before .before .before .before in
     omega (arith, c .count .ensures, few-members 8 (start .args .t) (omega arith) (start .pre) (search needs))
 
 loop-holds : tie.Need-loop-holds Inv-loop μ-loop
 loop-holds c =
-    let start = c .before .before .before .before .before .before .before in
+    let start = c .before .before .before .before .before .before in
     let args = start .args in
     let counted = parts-counted (args .t) _ (start .pre) (search needs) (c .count .ensures) in (
       counted,
       omega (arith, counted, few-parts (args .t) (start .pre) (search needs)),
-      below-starts (args .formulas .now) (args .list .now) (args .slots .now) (args .places .now) (args .t) (args .own) (args .side .now) (args .alive)
+      below-starts (args .steps .now) (args .listed) (args .slots .now) (args .places .now) (args .t) (args .own) (args .side .now) (args .alive)
           (args .table .now) (search needs),
     )
 
@@ -46,8 +46,8 @@ same-length c = c .before .before .before .loop .inv .2 .long
 returns : tie.Need-returns Inv-loop μ-loop
 returns c =
     let turn = c .before .before .before in
-    let args = turn .before .before .before .before .before .before .before .before .args in
-    below-none (args .formulas .now) (args .list .now) (args .slots .now) (args .places .now) (args .t) (args .own) (args .side .now) (args .alive)
+    let args = turn .before .before .before .before .before .before .before .args in
+    below-none (args .steps .now) (args .listed) (args .slots .now) (args .places .now) (args .t) (args .own) (args .side .now) (args .alive)
     (args .table .now) (turn .loop .inv .2) (walk-ends _ (sym (c .before .is-empty .ensures) ∙ c .if1 .taken))
 
 add-less-of : tie.Need-add-less-of Inv-loop μ-loop
@@ -89,12 +89,12 @@ loop-again c =
     let least = next .before in
     let test = least .before .before .before in
     let turn = test .before in
-    let start = turn .before .before .before .before .before .before .before .before in
+    let start = turn .before .before .before .before .before .before .before in
     let args = start .args in
     let last = turn .loop .inv .0 in (
       last,
       turn .loop .inv .1,
-      below-next (args .formulas .now) (args .list .now) (args .slots .now) (args .places .now) (args .t) (args .own) (args .side .now) (args .alive)
+      below-next (args .steps .now) (args .listed) (args .slots .now) (args .places .now) (args .t) (args .own) (args .side .now) (args .alive)
           (args .table .now) (omega (arith, start .pre)) (turn .loop .inv .2) (omega (arith, last, test .loop-test .taken)) _
           (least .less-of .ensures ∙ ap (λ (k : ℕ). min (turn .loop .n + 1) (k - 1)) last)
           _ _ (own .part-of2 .ensures) (next .part-of .ensures) (judged .judge-listed .ensures)
@@ -107,8 +107,8 @@ same-length-2 c = c .before .loop .inv .2 .long
 returns-2 : tie.Need-returns-2 Inv-loop μ-loop
 returns-2 c =
     let turn = c .before in
-    let args = turn .before .before .before .before .before .before .before .before .args in
-    below-whole (args .formulas .now) (args .list .now) (args .slots .now) (args .places .now) (args .t) (args .own) (args .side .now) (args .alive)
+    let args = turn .before .before .before .before .before .before .before .args in
+    below-whole (args .steps .now) (args .listed) (args .slots .now) (args .places .now) (args .t) (args .own) (args .side .now) (args .alive)
     (args .table .now) (turn .loop .inv .2) (omega (arith, turn .loop .inv .0, c .loop-test .left))
 
 pub alike-below-spec : {M : Type 1} → statement M

@@ -16,7 +16,7 @@ same-length c = search needs
 returns : tie.Need-returns
 returns c =
     let judged = c .before .before .before in
-    let start = judged .before .before .before .before .before .before .before .before in
+    let start = judged .before .before .before .before .before .before .before in
     any-alike (judged .alike-all .ensures) (start .pre .1) _ (c .is-empty .ensures) (search needs)
 
 pub any-alike-spec : {M : Type 1} → statement M

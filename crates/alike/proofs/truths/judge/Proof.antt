@@ -30,12 +30,12 @@ returns c =
     let place = put .before in
     let noted = place .before in
     let test = noted .before .before .before in
-    let args = test .before .before .before .before .before .args in
+    let args = test .before .before .before .before .args in
     let places = args .places .now in
     let is = noted .note .ensures ∙ ap (placeOf places) (noted .before .wide .ensures) in
-    judged-simple (args .key) (args .slots .now) places (args .h) (args .g) (args .t) (args .k) (args .table .now) (put .put-truth .ensures) (record {
-      first = of-atom (args .key) places _ _ (args .h) (args .t) (test .if1 .taken) _ _ is (place .truth-of-place .ensures .first);
-      second = of-atom (args .key) places _ _ (args .g) (args .t) (test .if1 .taken) _ _ is (place .truth-of-place .ensures .second);
+    judged-simple (args .step) places (args .h) (args .g) (args .t) (args .k) (args .table .now) (put .put-truth .ensures) (record {
+      first = of-atom (args .step) places _ _ (args .h) (args .t) (test .if1 .taken) _ _ is (place .truth-of-place .ensures .first);
+      second = of-atom (args .step) places _ _ (args .g) (args .t) (test .if1 .taken) _ _ is (place .truth-of-place .ensures .second);
     })
 
 all-of-one-requires : tie.Need-all-of-one-requires
@@ -61,29 +61,21 @@ returns-2 c =
     let here = there .before in
     let parts = here .before .before in
     let atom = parts .before .before in
-    let args = atom .before .before .before .before .before .args in
+    let args = atom .before .before .before .before .args in
     let is = all .at-all .ensures in
-    judged-nothing (args .key) (args .slots .now) (args .places .now) (args .h) (args .g) (args .t) (args .k) (args .table .now) (is .0) (is .1) (is .2)
-    (here .all-of-one .ensures) (there .all-of-one2 .ensures) (atom .if1 .left) (λ two five. ⊎-elim (λ l. omega arith) (λ l. omega (arith, ltb-true 5 (args .key .word) (l .2 .taken))) (parts .if2 .came))
+    judged-nothing (args .step) (args .places .now) (args .h) (args .g) (args .t) (args .k) (args .table .now) (is .0) (is .1) (is .2)
+    (here .all-of-one .ensures) (there .all-of-one2 .ensures) (atom .if1 .left)
+    (λ two five. ⊎-elim (λ l. omega arith) (λ l. omega (arith, ltb-true 5 (args .step .word) (l .2 .taken))) (parts .if2 .came))
     (put .put-truth2 .ensures)
 
-wide-requires-2 : tie.Need-wide-requires-2
-wide-requires-2 c κs = search needs
-
-slot-within-requires : tie.Need-slot-within-requires
-slot-within-requires c κs = search needs
-
-last-part-requires : tie.Need-last-part-requires
-last-part-requires c κs = search needs
-
-wide-requires-3 : tie.Need-wide-requires-3
-wide-requires-3 c κs = search needs
-
-slot-within-requires-2 : tie.Need-slot-within-requires-2
-slot-within-requires-2 c κs = search needs
+within-requires : tie.Need-within-requires
+within-requires c κs = search needs
 
 truth-in-requires : tie.Need-truth-in-requires
 truth-in-requires c κs = search needs
+
+within-requires-2 : tie.Need-within-requires-2
+within-requires-2 c κs = search needs
 
 truth-in-requires-2 : tie.Need-truth-in-requires-2
 truth-in-requires-2 c κs = search needs
@@ -96,9 +88,8 @@ joined-truth-requires c κs = search needs
 
 put-truth-requires-3 : tie.Need-put-truth-requires-3
 put-truth-requires-3 c κs =
-    let x = c .before .before .before .before .before .before .before .before .before .before in
-    let atom = x .before .before .before .before .before .before in
-    atom .before .before .before .before .before .pre
+    let atom = c .before .before .before .before .before .before .before .before .before .before .before .before .before in
+    atom .before .before .before .before .pre
 
 same-length-3 : tie.Need-same-length-3
 same-length-3 c = search needs
@@ -108,22 +99,18 @@ returns-3 c =
     let put = c .before .before in
     let joined = put .before in
     let signs = joined .before in
-    let second = signs .before in
-    let first = second .before .before in
-    let y = first .before .before .before in
-    let last = y .before .before in
-    let x = last .before in
-    let wide = x .before in
-    let many = wide .before in
+    let second = signs .before .before in
+    let y = second .before in
+    let first = y .before .before in
+    let x = first .before in
+    let many = x .before .before in
     let few = many .before .before in
-    let args = few .before .before .before .before .before .before .before .args in
+    let args = few .before .before .before .before .before .before .args in
     let table = args .table .now in
-    let slots = args .slots .now in
-    judged-joined (args .key) slots (args .places .now) (args .h) (args .g) (args .t) (args .k) table
-    (omega (arith, few .if2 .left)) (ltb-false 5 (args .key .word) (many .if3 .left)) (signs .signs-of .ensures)
+    judged-joined (args .step) (args .places .now) (args .h) (args .g) (args .t) (args .k) table
+    (omega (arith, few .if2 .left)) (ltb-false 5 (args .step .word) (many .if3 .left)) (signs .signs-of .ensures)
     (put .put-truth3 .ensures) (joined .joined-truth .ensures) (first .truth-in .ensures) (second .truth-in2 .ensures)
-    (at-slot table slots (wide .wide2 .ensures) (x .slot-within .ensures .1))
-    (at-slot table slots (y .before .wide3 .ensures ∙ last .last-part .ensures) (y .slot-within2 .ensures .1))
+    (at-slot table (x .within .ensures .1)) (at-slot table (y .within2 .ensures .1))
 
 pub judge-spec : {M : Type 1} → statement M
 judge-spec =
@@ -141,12 +128,9 @@ judge-spec =
     put-truth-requires-2
     same-length-2
     returns-2
-    wide-requires-2
-    slot-within-requires
-    last-part-requires
-    wide-requires-3
-    slot-within-requires-2
+    within-requires
     truth-in-requires
+    within-requires-2
     truth-in-requires-2
     signs-of-requires
     joined-truth-requires

@@ -1,10 +1,10 @@
--- `alike::truths::last_part` meets its contract. Assumes nothing.
+-- `alike::steps::last_part` meets its contract. Assumes nothing.
 use Prim.Native.Nat.{ℕ}
 use mathlib.Core.Bool.{Bool, cond}
 use mathlib.Core.Path.{sym, ap}
 use borrow.Author.Tests.{eq-eqb, ne-eqb}
-use Rattle.alike.proofs.truths.last_part.Statement.{statement}
-use Rattle.alike.proofs.truths.last_part.Tie as tie
+use Rattle.alike.proofs.steps.last_part.Statement.{statement}
+use Rattle.alike.proofs.steps.last_part.Tie as tie
 
 returns : tie.Need-returns
 returns c =

@@ -1,10 +1,10 @@
--- `alike::truths::slot_of` meets its contract. Assumes nothing.
+-- `alike::steps::slot_of` meets its contract. Assumes nothing.
 use native.Mathlib.Omega.{arith}
 use mathlib.Core.Path.{sym}
 use lib.ListN.{List·getD-eq-default}
 use borrow.Author.Needs.{needs}
-use Rattle.alike.proofs.truths.slot_of.Statement.{statement}
-use Rattle.alike.proofs.truths.slot_of.Tie as tie
+use Rattle.alike.proofs.steps.slot_of.Statement.{statement}
+use Rattle.alike.proofs.steps.slot_of.Tie as tie
 
 returns : tie.Need-returns
 returns c = sym (List·getD-eq-default (c .before .args .slots .now) 0 (omega arith))
