@@ -7,7 +7,7 @@ use mathlib.Core.Bool.{Bool, true, false, cond, false≢true}
 use mathlib.Core.List.{List, [], _∷_, map, List·Memᴰ·head, List·Memᴰ·tail, List·Memᴰ·not-nil, List·Memᴰ·cases-cons}
 use mathlib.Core.Logic.{⊎-elim, _↔_}
 use mathlib.Core.Path.{_≡_, refl, sym, ap, subst, _∙_}
-use borrow.Author.Tests.{lt-ltb, le-ltb, eqb-true}
+use borrow.Author.Tests.{lt-ltb, le-ltb}
 use lib.Dec.{eqb, ltb}
 use Rattle.equilibrium.specs.Formula.{Formula}
 use Rattle.equilibrium.specs.Meaning.{_∈_, _⊆_, Holds, Equal}
@@ -21,7 +21,7 @@ use Rattle.atomset.proofs.SetOf.{member-setOf}
 use Rattle.pairs.specs.Pairs.{holdsIn}
 use Rattle.pairs.specs.Parts.{part}
 use Rattle.pairs.proofs.Pairs.{Says, holds-in-iff}
-use Rattle.pairs.proofs.Parts.{part-inside, every-part}
+use Rattle.pairs.proofs.Parts.{every-part}
 use Rattle.alike.specs.Blocks.{pairsAtOnce}
 use Rattle.alike.specs.Truths.{innerPlaces, third, hereAt, thereAt, placeOf, Pair}
 use Rattle.alike.specs.Survivors.{AlikeOver}

@@ -1,6 +1,5 @@
 -- `alike::steps::fill_steps` meets its contract. The invariant of its loop: the first k steps are there. Assumes nothing.
 use Prim.Native.Nat.{ℕ, _-_}
-use native.Mathlib.Omega.{arith}
 use mathlib.Core.Path.{ap, _∙_}
 use lib.ListN.{length}
 use borrow.Author.Needs.{needs}
