@@ -44,13 +44,13 @@ struct elk_answer {
     uint32_t line;
 };
 
-/* The answer to a text. It takes about 232 KiB of stack, most of it for tables of its own. */
+/* The answer to a text. It takes about 238 KiB of stack, most of it for tables of its own. */
 struct elk_answer elk_check(const uint8_t *text, size_t text_length);
 
 /* The same, with the accepted file in the lent tables: what it holds and then zeros to the end of each, or zeros alone if it is
  * refused. Sides are stored written out: all ways to write a set, with runs or without, leave the same numbers.
  * The least lengths are 128, 3,072, 16,384, 16,384 and 16,384 numbers; with a shorter table the answer is number 1.
- * What the tables held before does not matter. It takes about 129 KiB of stack. */
+ * What the tables held before does not matter. It takes about 135 KiB of stack. */
 struct elk_answer elk_judge(const uint8_t *text, size_t text_length,
                             uint16_t *names, size_t names_length,
                             uint16_t *formulas, size_t formulas_length,

@@ -306,7 +306,7 @@ fn judge_group(
 }
 
 // Whether one of the candidates, all of which have few atoms with the formula's own, is equal to it. The first group is judged before the
-// loop: if `judge_group` were called at one place alone, the compiler would put it with its tables of 19 KiB into the function that judges
+// loop: if `judge_group` were called at one place alone, the compiler would put it, with its tables, into the function that judges
 // a line, and each line of a file would take longer.
 fn some_equal(
     formulas: &[u16],
