@@ -7,7 +7,5 @@ pub mod Listing
 pub mod Remaining
 pub mod Surviving
 pub mod Covering
-pub mod Seating
-pub mod Grouping
+pub mod Outside
 pub mod Choosing
-pub mod Numbers

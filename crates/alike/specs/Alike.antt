@@ -1,30 +1,19 @@
--- The number that a row of `swap` earns by its candidates for B: formulas that leave its sides right.
+-- Candidates that are equal to a formula, where their atoms have places of their own.
 use Prim.Native.Nat.{ℕ, _^_, _≤_, _<_}
 use mathlib.Core.Bool.{Bool}
-use mathlib.Core.List.{List, [], _∷_}
-use mathlib.Core.Logic.{_↔_}
+use mathlib.Core.List.{List}
 use mathlib.Core.Path.{_≡_}
-use lib.Bits.{bitOr}
 use lib.ListN.{length, getD}
 use Rattle.equilibrium.specs.Formula.{Formula, atomsOf}
 use Rattle.equilibrium.specs.Meaning.{_∈_, Equal}
-use Rattle.elk.specs.Instance.{mostSwapped, Narrow}
 use Rattle.format.specs.File.{Body, decodedAt}
-use Rattle.format.specs.Tables.{mostFormulas, mostOnSide}
-use Rattle.atomset.specs.AtomSet.{Member, members}
+use Rattle.format.specs.Tables.{mostFormulas}
+use Rattle.atomset.specs.AtomSet.{Member}
 use Rattle.tables.specs.Holding.{Formulas}
-use Rattle.known.specs.Known.{AtomNotes}
 use Rattle.sides.specs.Deciding.{Decides}
 use Rattle.alike.specs.Under.{Marked}
+use Rattle.alike.specs.Survivors.{mostPlaces}
 use Rattle.alike.specs.Places.{Seated}
-
--- the atoms noted of candidate c, and these
-abbrev pub atomsAt : List ℕ → ℕ → List ℕ → ℕ → ℕ
-atomsAt notes atoms side c = bitOr atoms (getD notes (getD side c 0) 0)
-
--- the atoms noted of formula x and these are few
-abbrev pub Few : List ℕ → ℕ → ℕ → Type 0
-Few notes atoms x = length (members (bitOr atoms (getD notes x 0))) ≤ mostSwapped
 
 -- what was marked stays so, and the candidates' formulas are marked as far as the table goes
 pub record CandidatesMarked (side : List ℕ) (candidates : ℕ) (before after : List ℕ) : Type 0 where
@@ -55,50 +44,9 @@ pub record BothSeated (places : List ℕ) (n : ℕ) (A B : Formula) : Type 0 whe
   pub in-first : (p : ℕ) → p ∈ atomsOf A → Member p set
   pub in-second : (p : ℕ) → p ∈ atomsOf B → Member p set
 
--- the answer says whether one is, where the atoms of each, with the formula's, have places of their own
+-- the answer says whether one is, where the atoms of each, with the formula's, have places of their own, and there are at most 8
 pub record SomeAlike (formulas : List ℕ) (own : ℕ) (places : List ℕ) (n : ℕ) (side : List ℕ) (candidates : ℕ) (r : Bool) : Type 0 where
   pub decides :
-      (b : Body) → Held b formulas own side → ((c : ℕ) → Member c candidates → c < length side)
+      (b : Body) → Held b formulas own side → n ≤ mostPlaces → ((c : ℕ) → Member c candidates → c < length side)
       → ((c : ℕ) → Member c candidates → BothSeated places n (decodedAt (b .nodes) own) (decodedAt (b .nodes) (getD side c 0)))
       → Decides (OneEqual b own side candidates) r
-
--- the same, by the atoms noted
-pub record SomeEqual (formulas notes : List ℕ) (own atoms : ℕ) (side : List ℕ) (candidates : ℕ) (r : Bool) : Type 0 where
-  pub decides :
-      (b : Body) → Held b formulas own side → AtomNotes b notes → atoms ≡ getD notes own 0 → ((c : ℕ) → Member c candidates → c < length side)
-      → Decides (OneEqual b own side candidates) r
-
--- a group of the pending candidates has c
-pub record GroupOf (c pending group : ℕ) : Type 0 where
-  pub own : Member c group
-  pub within : (d : ℕ) → Member d group → Member d pending
-
--- and the atoms noted of each of it, with these, have places of their own below n
-pub record Grouped (notes : List ℕ) (atoms : ℕ) (side : List ℕ) (c pending n : ℕ) (before after : List ℕ) (group : ℕ) : Type 0 where
-  pub long : length after ≡ length before
-  pub its : GroupOf c pending group
-  pub seated : (d : ℕ) → Member d group → Seated after n (atomsAt notes atoms side d)
-
--- and the answer says whether one of it is equal to the formula
-pub record GroupJudged (formulas notes : List ℕ) (own atoms : ℕ) (side : List ℕ) (c pending group : ℕ) (r : Bool) : Type 0 where
-  pub its : GroupOf c pending group
-  pub judged : SomeEqual formulas notes own atoms side group r
-
--- a formula of the side fits: it has few atoms together with A, and is equal to it
-abbrev pub OneFits : Body → ℕ → List ℕ → Type 0
-OneFits b own side =
-    (x : ℕ) × (x ∈ side) × (Narrow (decodedAt (b .nodes) own) (decodedAt (b .nodes) x) × Equal (decodedAt (b .nodes) own) (decodedAt (b .nodes) x))
-
--- a formula of the side has too many atoms
-abbrev pub OneWide : Body → ℕ → List ℕ → Type 0
-OneWide b own side = (x : ℕ) × (x ∈ side) × (Narrow (decodedAt (b .nodes) own) (decodedAt (b .nodes) x) → ⊥)
-
--- The number of the candidates. Where the tables hold the formulas of a good body with their atoms, and the side has no more entries
--- than 01 allows, 0 exactly if one fits, and 18 exactly if none does and one has too many atoms. In any tables it is one of 0, 18 and 11;
--- which of them is free elsewhere.
-pub record CandidatesNumbered (formulas notes : List ℕ) (own : ℕ) (side : List ℕ) (number : ℕ) : Type 0 where
-  pub fits : (b : Body) → Held b formulas own side → AtomNotes b notes → length side ≤ mostOnSide → (number ≡ 0) ↔ OneFits b own side
-  pub wide :
-      (b : Body) → Held b formulas own side → AtomNotes b notes → length side ≤ mostOnSide
-      → (number ≡ 18) ↔ ((OneFits b own side → ⊥) × OneWide b own side)
-  pub one-of : number ∈ 0 ∷ 18 ∷ 11 ∷ []

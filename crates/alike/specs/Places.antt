@@ -1,11 +1,9 @@
 -- Atoms at places: where the atoms of two formulas have places of their own, the pairs of places are all pairs of these atoms.
 use Prim.Native.Nat.{ℕ, _^_, _≤_, _<_}
-use mathlib.Core.Bool.{Bool, true}
 use mathlib.Core.List.{List}
 use mathlib.Core.Logic.{_↔_}
 use mathlib.Core.Path.{_≡_}
-use lib.ListN.{length}
-use Rattle.atomset.specs.AtomSet.{Member, members}
+use Rattle.atomset.specs.AtomSet.{Member}
 use Rattle.alike.specs.Truths.{innerPlaces, placeOf}
 use Rattle.alike.specs.Survivors.{mostPlaces}
 
@@ -18,22 +16,7 @@ pub record Seated (places : List ℕ) (n set : ℕ) : Type 0 where
 abbrev pub Outer : ℕ → ℕ → Type 0
 Outer n set = (s : ℕ) → Member s set ↔ ((innerPlaces ≤ s) × (s < n))
 
--- the atoms of the set have places of their own, as many as they are
-pub record SeatedAll (set : ℕ) (before after : List ℕ) : Type 0 where
-  pub long : length after ≡ length before
-  pub seated : Seated after (length (members set)) set
-
--- an atom that has a place keeps it
-pub record PlacesKept (before after : List ℕ) : Type 0 where
-  pub long : length after ≡ length before
-  pub kept : (p : ℕ) → placeOf before p < mostPlaces → placeOf after p ≡ placeOf before p
-
--- so it is, and the answer is true only if the atoms of the set have places of their own below n
-pub record SeatedToo (set n : ℕ) (before after : List ℕ) (r : Bool) : Type 0 where
-  pub kept : PlacesKept before after
-  pub seated : r ≡ true → Seated after n set
-
--- so is the set, and there are at most 8 places
+-- these, where there are at most 8 places
 pub record OuterPlaces (n set : ℕ) : Type 0 where
   pub few : set < 2 ^ mostPlaces
   pub its : Outer n set

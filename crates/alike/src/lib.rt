@@ -1,49 +1,32 @@
-// Formulas that hold in the same here-and-there interpretations as one formula, among candidates that stand on a side. Candidates whose
-// atoms can be given places of their own, at most 8 of them, are judged together: the formulas under them are listed once and judged in
-// 256 pairs at a time.
+// Whether one of some candidates is equal to a formula, where the atoms of each, with the formula's, have places of their own, at most 8 of
+// them. The formulas under all of these are listed once and judged in 256 pairs at a time.
 mod blocks;
 mod places;
 mod steps;
-mod survivors;
+pub mod survivors;
 mod truths;
 mod under;
 
-ghost use Prim.Native.Nat.{ℕ, _^_, _≤_, _<_};
-ghost use mathlib.Core.Logic.{_↔_};
-ghost use mathlib.Core.Path.{_≡_};
-ghost use lib.Bits.{bitOr};
-ghost use lib.ListN.{length, getD};
-ghost use Rattle.atomset.specs.AtomSet.{Member};
+ghost use Prim.Native.Nat.{_^_, _≤_, _<_};
+ghost use lib.ListN.{length};
 ghost use Rattle.format.specs.Tables.{mostFormulas};
 ghost use Rattle.alike.specs.Under.{Room};
-ghost use Rattle.alike.specs.Survivors.{mostPlaces, fewListed, Remain, AnyListed};
-ghost use Rattle.alike.specs.Places.{Seated};
-ghost use Rattle.alike.specs.Alike.{atomsAt, Few, CandidatesMarked, Bounded, SomeAlike, SomeEqual, Grouped, GroupJudged, CandidatesNumbered};
-use crate::places::NO_PLACE;
+ghost use Rattle.alike.specs.Survivors.{mostPlaces, fewListed, AnyListed};
+ghost use Rattle.alike.specs.Alike.{CandidatesMarked, Bounded, SomeAlike};
 use crate::places::outer_places;
-use crate::places::seat;
-use crate::places::seat_too;
 use crate::steps::fill_steps;
 use crate::survivors::any_alike;
 use crate::survivors::formula_at;
 use crate::under::list_under;
 use crate::under::mark;
-use atomset::contains;
-use atomset::count;
-use atomset::difference;
 use atomset::first;
-use atomset::insert;
 use atomset::is_empty;
-use atomset::single;
 use atomset::without_first;
-use counts::limits::MOST_ATOMS;
 use counts::limits::MOST_FORMULAS;
-use known::index::note;
 use pairs::past_largest;
-use tables::records::wide;
 
-// The most atoms that two formulas of `swap` have together.
-const MOST_SWAPPED: usize = 8;
+// The most places of atoms.
+const MOST_PLACES: usize = 8;
 
 // The most formulas of a short list.
 const FEW_LISTED: usize = 32;
@@ -56,45 +39,6 @@ const MOST_WORDS: usize = 12288;
 const FEW_NUMBERS: usize = 96;
 
 const MOST_NUMBERS: usize = 3072;
-
-// Candidates judged together, and whether one of them is equal to the formula.
-struct Group {
-    candidates: u64,
-    equal: bool,
-}
-
-// All entries of a side as candidates, as far as a word goes.
-fn all_of(side: &[u16]) -> u64
-    ensures { λ r. ⌜ ((c : ℕ) → Member c r ↔ ((c < 64) × (c < length (now (side .entry))))) ⌝ }
-{
-    if side.len() >= 64 {
-        return 0xFFFFFFFFFFFFFFFF;
-    }
-    (1u64 << side.len()) - 1
-}
-
-// The atoms of a formula, with others.
-fn atoms_with(notes: &[u64], atoms: u64, formula: usize) -> u64
-    ensures { λ r. ⌜ r ≡ bitOr atoms (getD (now (notes .entry)) formula 0) ⌝ }
-{
-    atoms | note(notes, formula)
-}
-
-// The candidates that have few atoms together with these.
-fn narrow_ones(notes: &[u64], atoms: u64, side: &[u16], alive: u64) -> u64
-    ensures { λ r. ⌜ Remain (λ c. Few (now (notes .entry)) atoms (getD (now (side .entry)) c 0)) alive r ⌝ }
-{
-    let mut kept = 0;
-    let mut rest = alive;
-    while !is_empty(rest) {
-        let c = first(rest);
-        rest = without_first(rest);
-        if count(atoms_with(notes, atoms, formula_at(side, c))) <= MOST_SWAPPED {
-            kept = insert(kept, c);
-        }
-    }
-    kept
-}
 
 // Marks the formulas of the candidates.
 fn mark_candidates(side: &[u16], candidates: u64, marks: &mut [u8])
@@ -230,8 +174,9 @@ fn alike_with(
     )
 }
 
-// The same, with room for itself.
-fn some_alike(
+// Whether one of the candidates is equal to the formula, where the atoms of both have places of their own below `width`; false where there
+// are more places than 8.
+pub fn some_alike(
     formulas: &[u16],
     own: usize,
     places: &[u64],
@@ -239,9 +184,11 @@ fn some_alike(
     side: &[u16],
     candidates: u64,
 ) -> bool
-    requires { ⌜ width ≤ mostPlaces ⌝ }
     ensures { λ r. ⌜ SomeAlike (now (formulas .entry)) own (now (places .entry)) width (now (side .entry)) candidates r ⌝ }
 {
+    if width > MOST_PLACES {
+        return false;
+    }
     let mut marks = [0u8; MOST_FORMULAS];
     let mut list = [0u16; MOST_FORMULAS];
     let mut slots = [0u16; MOST_FORMULAS];
@@ -256,106 +203,4 @@ fn some_alike(
         &mut list,
         &mut slots,
     )
-}
-
-// The pending candidates whose atoms, with the formula's, have places of their own as candidate c's have, once more atoms have places.
-fn seat_group(
-    notes: &[u64],
-    atoms: u64,
-    side: &[u16],
-    c: usize,
-    pending: u64,
-    width: usize,
-    places: &mut [u64],
-) -> u64
-    requires { ⌜ (width ≤ mostPlaces) × Member c pending × Seated (now places) width (atomsAt (now notes) atoms (now side) c) ⌝ }
-    ensures { λ r. ⌜ Grouped (now (notes .entry)) atoms (now (side .entry)) c pending width (now (places .entry)) (now (places .exit)) r ⌝ }
-{
-    let mut group = single(c);
-    let mut rest = pending;
-    while !is_empty(rest) {
-        let d = first(rest);
-        rest = without_first(rest);
-        if seat_too(atoms_with(notes, atoms, formula_at(side, d)), width, places) {
-            group = insert(group, d);
-        }
-    }
-    group
-}
-
-// Judges candidate c, which has few atoms with the formula's own, and such pending ones as can be judged with it.
-fn judge_group(
-    formulas: &[u16],
-    notes: &[u64],
-    own: usize,
-    atoms: u64,
-    side: &[u16],
-    c: usize,
-    pending: u64,
-) -> Group
-    requires { ⌜ Member c pending × Few (now notes) atoms (getD (now side) c 0) ⌝ }
-    ensures { λ r. ⌜ GroupJudged (now (formulas .entry)) (now (notes .entry)) own atoms (now (side .entry)) c pending (r .candidates) (r .equal) ⌝ }
-{
-    let mut places = [NO_PLACE; MOST_ATOMS];
-    let set = atoms_with(notes, atoms, formula_at(side, c));
-    let width = count(set);
-    seat(set, &mut places);
-    let candidates = seat_group(notes, atoms, side, c, pending, width, &mut places);
-    let equal = some_alike(formulas, own, &places, width, side, candidates);
-    Group { candidates, equal }
-}
-
-// Whether one of the candidates, all of which have few atoms with the formula's own, is equal to it. The first group is judged before the
-// loop: if `judge_group` were called at one place alone, the compiler would put it, with its tables, into the function that judges
-// a line, and each line of a file would take longer.
-fn some_equal(
-    formulas: &[u16],
-    notes: &[u64],
-    own: usize,
-    atoms: u64,
-    side: &[u16],
-    narrow: u64,
-) -> bool
-    requires { ⌜ ((c : ℕ) → Member c narrow → Few (now notes) atoms (getD (now side) c 0)) ⌝ }
-    ensures { λ r. ⌜ SomeEqual (now (formulas .entry)) (now (notes .entry)) own atoms (now (side .entry)) narrow r ⌝ }
-{
-    if is_empty(narrow) {
-        return false;
-    }
-    let begun = judge_group(formulas, notes, own, atoms, side, first(narrow), narrow);
-    if begun.equal {
-        return true;
-    }
-    let mut pending = difference(narrow, begun.candidates);
-    let mut rest = without_first(narrow);
-    while !is_empty(rest) {
-        let c = first(rest);
-        rest = without_first(rest);
-        if contains(pending, c) {
-            let group = judge_group(formulas, notes, own, atoms, side, c, pending);
-            if group.equal {
-                return true;
-            }
-            pending = difference(pending, group.candidates);
-        }
-    }
-    false
-}
-
-// The number of a row of `swap`, by the candidates for B that leave its sides right: 0 if one with few atoms is equal to A, else 18 if
-// one has more, else 11.
-pub fn candidates_number(formulas: &[u16], notes: &[u64], principal: u16, side: &[u16]) -> u32
-    ensures { λ r. ⌜ CandidatesNumbered (now (formulas .entry)) (now (notes .entry)) principal (now (side .entry)) r ⌝ }
-{
-    let own = wide(principal);
-    let atoms = note(notes, own);
-    let all = all_of(side);
-    let narrow = narrow_ones(notes, atoms, side, all);
-    if some_equal(formulas, notes, own, atoms, side, narrow) {
-        return 0;
-    }
-    if is_empty(difference(all, narrow)) {
-        return 11;
-    }
-    18
 }

@@ -21,7 +21,7 @@ use pairs::part_of;
 use tables::records::wide;
 
 // The formula of a candidate, 0 where there is none.
-pub(crate) fn formula_at(side: &[u16], candidate: usize) -> usize
+pub fn formula_at(side: &[u16], candidate: usize) -> usize
     ensures { λ r. ⌜ r ≡ getD (now (side .entry)) candidate 0 ⌝ }
 {
     if candidate >= side.len() {

@@ -24,7 +24,7 @@ use Rattle.sides.specs.Numbers.{numbersOf, numberSide}
 use Rattle.sides.proofs.NumberSides.{noNumbers, oneNumber, one-number}
 use Rattle.sides.proofs.SharedSides.{shared-two}
 use Rattle.sides.proofs.DecodedSides.{part-decoded}
-use Rattle.alike.specs.Alike.{OneFits, OneWide, CandidatesNumbered}
+use Rattle.candidates.specs.Candidates.{OneFits, OneWide, CandidatesNumbered}
 use Rattle.alike.specs.Alike.{Held as HeldCandidates}
 use Rattle.swap.specs.Swap.{SidesMeet, OfBody, SwapNumbered}
 

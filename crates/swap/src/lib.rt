@@ -2,7 +2,7 @@
 // most 8 atoms together. A formula of the premise's left side that the row's lacks is the only B that can leave the sides right; where
 // there is none, each formula of the premise's left side does so, or none does.
 ghost use Rattle.swap.specs.Swap.{SwapNumbered};
-use alike::candidates_number;
+use candidates::candidates_number;
 use sides::covering::first_outside;
 use sides::fitting::fit;
 use sides::members::same;

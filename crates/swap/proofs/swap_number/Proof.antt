@@ -11,7 +11,7 @@ use Rattle.equilibrium.specs.Meaning.{_∈_, _⊆_}
 use Rattle.format.proofs.Equal.{same-iff}
 use Rattle.format.proofs.GoodBodies.{in-getD, in-place}
 use Rattle.sides.proofs.Deciding.{denied-if}
-use Rattle.alike.specs.Alike.{CandidatesNumbered}
+use Rattle.candidates.specs.Candidates.{CandidatesNumbered}
 use Rattle.swap.proofs.SwapRule.{LeftsMeet, one-tested, none-tested, none-needed, none-leaves, only-one, eleven-given, candidates-given}
 use borrow.Author.Needs.{needs}
 use Rattle.swap.proofs.swap_number.Statement.{statement}
