@@ -12,7 +12,8 @@ use lib.ListN.{length, getD, set, length-set}
 use lib.Seq.{getD-set-same, getD-set-other, sets, length-sets}
 use Rattle.atomset.specs.AtomSet.{has}
 use Rattle.atomset.proofs.Digits.{has-zero, has-and, has-or, has-xor, same-members}
-use Rattle.alike.specs.Blocks.{pairsAtOnce, wordOf, wordsOf, digit, SameWords, allOf, bothOf, joinedWord, joinedOf, raisedOf, truthWords, hereIn, alsoIn, thereIn, Roomy, TruthPut}
+use Rattle.alike.specs.Blocks.{pairsAtOnce, wordOf, wordsOf, digit, SameWords, allOf, bothOf, joinedWord, joinedOf}
+use Rattle.alike.specs.Blocks.{raisedOf, truthWords, hereIn, alsoIn, thereIn, Roomy, TruthPut}
 use Rattle.alike.specs.declared.blocks.Block.{Block}
 use Rattle.alike.specs.declared.blocks.Signs.{Signs}
 use Rattle.alike.specs.declared.blocks.Truth.{Truth}

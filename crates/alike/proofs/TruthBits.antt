@@ -26,7 +26,8 @@ use Rattle.pairs.specs.Truths.{byWord}
 use Rattle.pairs.proofs.Truths.{and-self, each-node}
 use Rattle.alike.specs.Blocks.{digit, allOf, bothOf, joinedOf, raisedOf, joinedTruth, truthWords, truthIn, Roomy, TruthPut}
 use Rattle.alike.specs.Under.{PartOf, first-part, second-part, PartIn, slotOf, stepOf, Steps}
-use Rattle.alike.specs.Truths.{hereAt, thereAt, placeOf, View, firstOf, secondOf, PlaceSeen, made, alone, judgedHere, judgedThere, JudgedSeen, Judged, Signed, JudgedNext, Pair, Seen, Right, Ready, JudgedAll}
+use Rattle.alike.specs.Truths.{hereAt, thereAt, placeOf, View, firstOf, secondOf, PlaceSeen, made, alone, judgedHere, judgedThere}
+use Rattle.alike.specs.Truths.{JudgedSeen, Judged, Signed, JudgedNext, Pair, Seen, Right, Ready, JudgedAll}
 use Rattle.alike.specs.declared.blocks.Block.{Block}
 use Rattle.alike.specs.declared.blocks.Signs.{Signs}
 use Rattle.alike.specs.declared.blocks.Truth.{Truth}
