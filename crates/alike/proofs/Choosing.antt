@@ -16,7 +16,7 @@ use Rattle.atomset.specs.AtomSet.{has, Member, members}
 use Rattle.atomset.proofs.Members.{member-members, walk-ends}
 use Rattle.sides.specs.Deciding.{Decides}
 use Rattle.alike.specs.Under.{MarkedBefore, Room, Listed, StepsFilled}
-use Rattle.alike.specs.Survivors.{AlikeOver, Prepared, RoomFor, AlikeAll, AnyAlike, AnyListed}
+use Rattle.alike.specs.Survivors.{mostPlaces, AlikeOver, Prepared, RoomFor, AlikeAll, AnyAlike, AnyListed}
 use Rattle.alike.specs.Places.{OuterPlaces}
 use Rattle.alike.specs.Alike.{CandidatesMarked, Bounded, Held, OneEqual, BothSeated, SomeAlike}
 use Rattle.alike.proofs.Covering.{alike-iff}
@@ -111,5 +111,5 @@ module _ {formulas : List ℕ} {own : ℕ} {places side : List ℕ} {candidates 
             complete = λ (c, m, q). one .complete (c, m, equal c m .1 q);
           }
 
-  pub some-alike : SomeAlike formulas own places width side candidates r
-  some-alike = record { decides = λ b held few. decided b held }
+  pub some-alike : width ≤ mostPlaces → SomeAlike formulas own places width side candidates r
+  some-alike few-places = record { decides = λ b held few. decided b held; many = λ l. absurd (omega arith) }

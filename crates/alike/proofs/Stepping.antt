@@ -74,14 +74,14 @@ module _ (table : List ℕ) (k : ℕ) (r : NodeRecord) (room : nodeWidth * k + n
   whole : after ≡ take (nodeWidth * k) table ++ (recordNumbers r ++ drop (nodeWidth * k + nodeWidth) table)
   whole = written-inside table (nodeWidth * k) (recordNumbers r) room ∙ append-assoc (take (nodeWidth * k) table) (recordNumbers r) _
 
-  pub length-after : length after ≡ length table
+  length-after : length after ≡ length table
   length-after =
       let front = length-take-le (nodeWidth * k) table (omega arith) in
       let rest = length-drop (nodeWidth * k + nodeWidth) table in
       ap length whole ∙ length-append (take (nodeWidth * k) table) _ ∙ omega (arith, front, rest)
 
   -- it is there
-  pub node-written : recordFrom (nodeAt after k) ≡ r
+  node-written : recordFrom (nodeAt after k) ≡ r
   node-written =
       let front = length-take-le (nodeWidth * k) table (omega arith) in
       ap (λ (t : List ℕ). recordFrom (nodeAt t k)) whole
@@ -89,7 +89,7 @@ module _ (table : List ℕ) (k : ℕ) (r : NodeRecord) (room : nodeWidth * k + n
       (part-between (take (nodeWidth * k) table) (recordNumbers r) (drop (nodeWidth * k + nodeWidth) table) (nodeWidth * k) nodeWidth front refl)
 
   -- and those before it are as they were
-  pub node-before : (j : ℕ) → j < k → nodeAt after j ≡ nodeAt table j
+  node-before : (j : ℕ) → j < k → nodeAt after j ≡ nodeAt table j
   node-before j l =
       let front = length-take-le (nodeWidth * k) table (omega arith) in
       part-inside after (nodeWidth * j) nodeWidth (omega (arith, length-after))

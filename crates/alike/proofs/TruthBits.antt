@@ -119,7 +119,7 @@ module _ (key : NodeRecord) (places : List ℕ) (x y : View) (h t : ℕ) where
       (simp (digit-none n, ne-eqb w 1 atom, q, r, s, u), simp (digit-none n, ne-eqb w 1 atom, q, r, s, u))
 
   -- a connective
-  pub of-joined : 2 ≤ key .word → key .word ≤ 5 → {s : Signs} → Signed (key .word) s
+  of-joined : 2 ≤ key .word → key .word ≤ 5 → {s : Signs} → Signed (key .word) s
       → JudgedSeen key places h t x y (record {
         here = bothOf (raisedOf (s .alone) (joinedOf s (x .there) (y .there))) (joinedOf s (x .here) (y .here));
         there = joinedOf s (x .there) (y .there);
@@ -150,7 +150,7 @@ module _ (key : NodeRecord) (places : List ℕ) (h g t k : ℕ) (table : List �
   abbrev Y : Truth
   Y = truthIn table (key .second)
 
-  pub judged-put : {table′ : List ℕ} (v : Truth) → TruthPut table k v table′
+  judged-put : {table′ : List ℕ} (v : Truth) → TruthPut table k v table′
       → ((2 ≤ key .word → Roomy table (key .first) × Roomy table (key .second)) → Judged key places h g t X Y v)
       → JudgedNext key places h g t k table table′
   judged-put v put judged = record {

@@ -1,6 +1,6 @@
 -- Candidates that are equal to a formula, where their atoms have places of their own.
 use Prim.Native.Nat.{ℕ, _^_, _≤_, _<_}
-use mathlib.Core.Bool.{Bool}
+use mathlib.Core.Bool.{Bool, false}
 use mathlib.Core.List.{List}
 use mathlib.Core.Path.{_≡_}
 use lib.ListN.{length, getD}
@@ -44,9 +44,10 @@ pub record BothSeated (places : List ℕ) (n : ℕ) (A B : Formula) : Type 0 whe
   pub in-first : (p : ℕ) → p ∈ atomsOf A → Member p set
   pub in-second : (p : ℕ) → p ∈ atomsOf B → Member p set
 
--- the answer says whether one is, where the atoms of each, with the formula's, have places of their own, and there are at most 8
+-- the answer says whether one is, where the atoms of each, with the formula's, have places of their own, at most 8; with more it is false
 pub record SomeAlike (formulas : List ℕ) (own : ℕ) (places : List ℕ) (n : ℕ) (side : List ℕ) (candidates : ℕ) (r : Bool) : Type 0 where
   pub decides :
       (b : Body) → Held b formulas own side → n ≤ mostPlaces → ((c : ℕ) → Member c candidates → c < length side)
       → ((c : ℕ) → Member c candidates → BothSeated places n (decodedAt (b .nodes) own) (decodedAt (b .nodes) (getD side c 0)))
       → Decides (OneEqual b own side candidates) r
+  pub many : mostPlaces < n → r ≡ false

@@ -1,21 +1,22 @@
 // The steps by which listed formulas are judged: their records, with the slots of their parts for the parts' numbers, so that slots are
 // looked up once for all blocks. A negation has its part twice.
 ghost use mathlib.Core.Path.{_≡_};
-ghost use Rattle.alike.specs.Under.{slotOf, lastPart, stepOf, StepsFilled};
+ghost use lib.ListN.{getD};
+ghost use Rattle.alike.specs.Under.{lastPart, stepOf, StepsFilled};
 use tables::records::NOT;
 use tables::records::NodeRecord;
 use tables::records::node;
 use tables::records::put_node;
 use tables::records::wide;
 
-// The slot of a formula.
-pub(crate) fn slot_of(slots: &[u16], formula: usize) -> u16
-    ensures { λ r. ⌜ r ≡ slotOf (now (slots .entry)) formula ⌝ }
+// The entry of a list at a place, 0 past its end. Of the slots it is that of a formula.
+pub(crate) fn entry_of(list: &[u16], at: usize) -> u16
+    ensures { λ r. ⌜ r ≡ getD (now (list .entry)) at 0 ⌝ }
 {
-    if formula >= slots.len() {
+    if at >= list.len() {
         return 0;
     }
-    slots[formula]
+    list[at]
 }
 
 // The last part of a formula: a negation has one alone.
@@ -37,8 +38,8 @@ fn step_of(key: NodeRecord, slots: &[u16]) -> NodeRecord
     }
     NodeRecord {
         word: key.word,
-        first: slot_of(slots, wide(key.first)),
-        second: slot_of(slots, wide(last_part(key))),
+        first: entry_of(slots, wide(key.first)),
+        second: entry_of(slots, wide(last_part(key))),
     }
 }
 

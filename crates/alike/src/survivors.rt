@@ -10,7 +10,7 @@ ghost use Rattle.alike.specs.Survivors.{SameHere, mostPlaces, RoomFor, A
 use crate::blocks::also_in;
 use crate::blocks::here_in;
 use crate::blocks::same_both;
-use crate::steps::slot_of;
+use crate::steps::entry_of;
 use crate::truths::judge_listed;
 use atomset::count;
 use atomset::first;
@@ -24,24 +24,21 @@ use tables::records::wide;
 pub fn formula_at(side: &[u16], candidate: usize) -> usize
     ensures { λ r. ⌜ r ≡ getD (now (side .entry)) candidate 0 ⌝ }
 {
-    if candidate >= side.len() {
-        return 0;
-    }
-    wide(side[candidate])
+    wide(entry_of(side, candidate))
 }
 
 // The candidates whose words are those of the formula.
 fn still_alike(table: &[u64], slots: &[u16], own: usize, side: &[u16], alive: u64) -> u64
     ensures { λ r. ⌜ ((c : ℕ) → Member c r ↔ (Member c alive × SameHere (now (table .entry)) (now (slots .entry)) own (getD (now (side .entry)) c 0))) ⌝ }
 {
-    let here = here_in(table, slot_of(slots, own));
-    let also = also_in(table, slot_of(slots, own));
+    let here = here_in(table, entry_of(slots, own));
+    let also = also_in(table, entry_of(slots, own));
     let mut kept = 0;
     let mut rest = alive;
     while !is_empty(rest) {
         let c = first(rest);
         rest = without_first(rest);
-        let slot = slot_of(slots, formula_at(side, c));
+        let slot = entry_of(slots, formula_at(side, c));
         if same_both(here_in(table, slot), here, also_in(table, slot), also) {
             kept = insert(kept, c);
         }

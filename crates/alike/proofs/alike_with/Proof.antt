@@ -53,7 +53,7 @@ returns c =
     let end = own .before .before in
     let start = end .before .before .before .before .before .before .before in
     some-alike (start .pre .1) (end .end-of .ensures) (own .mark .ensures) (marked .mark-candidates .ensures) (listed .list-under .ensures)
-    (outer .outer-places .ensures) (c .alike-few .ensures)
+    (outer .outer-places .ensures) (c .alike-few .ensures) (start .pre .0)
 
 slice-reshare-prefix-alike-many : tie.Need-slice-reshare-prefix-alike-many
 slice-reshare-prefix-alike-many c = search needs
@@ -86,7 +86,7 @@ returns-2 c =
     let end = own .before .before in
     let start = end .before .before .before .before .before .before .before in
     some-alike (start .pre .1) (end .end-of .ensures) (own .mark .ensures) (marked .mark-candidates .ensures) (listed .list-under .ensures)
-    (outer .outer-places .ensures) (c .alike-many .ensures)
+    (outer .outer-places .ensures) (c .alike-many .ensures) (start .pre .0)
 
 pub alike-with-spec : {M : Type 1} → statement M
 alike-with-spec =

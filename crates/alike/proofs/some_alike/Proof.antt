@@ -1,11 +1,12 @@
 -- `alike::some_alike` meets its contract. Assumes nothing.
 use native.Mathlib.Omega.{arith}
+use mathlib.Core.Path.{refl}
 use borrow.Author.Needs.{needs}
 use Rattle.alike.proofs.some_alike.Statement.{statement}
 use Rattle.alike.proofs.some_alike.Tie as tie
 
 returns : tie.Need-returns
-returns c = record { decides = λ b held few. absurd (omega (arith, few, c .if1 .taken)) }
+returns c = record { decides = λ b held few. absurd (omega (arith, few, c .if1 .taken)); many = λ l. refl }
 
 slice-aggregate-alike-with : tie.Need-slice-aggregate-alike-with
 slice-aggregate-alike-with c = search needs

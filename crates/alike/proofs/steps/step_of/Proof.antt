@@ -15,8 +15,8 @@ returns c =
 wide-requires : tie.Need-wide-requires
 wide-requires c κs = search needs
 
-slot-of-requires : tie.Need-slot-of-requires
-slot-of-requires c κs = search needs
+entry-of-requires : tie.Need-entry-of-requires
+entry-of-requires c κs = search needs
 
 last-part-requires : tie.Need-last-part-requires
 last-part-requires c κs = search needs
@@ -24,8 +24,8 @@ last-part-requires c κs = search needs
 wide-requires-2 : tie.Need-wide-requires-2
 wide-requires-2 c κs = search needs
 
-slot-of-requires-2 : tie.Need-slot-of-requires-2
-slot-of-requires-2 c κs = search needs
+entry-of-requires-2 : tie.Need-entry-of-requires-2
+entry-of-requires-2 c κs = search needs
 
 returns-2 : tie.Need-returns-2
 returns-2 c =
@@ -36,8 +36,8 @@ returns-2 c =
     let key = start .args .key in
     let slots = start .args .slots .now in
     ap₂ (λ (x y : ℕ). record { word = key .word; first = x; second = y })
-    (first .slot-of .ensures ∙ ap (slotOf slots) (first .before .wide .ensures))
-    (c .slot-of2 .ensures ∙ ap (slotOf slots) (last .wide2 .ensures ∙ last .before .last-part .ensures))
+    (first .entry-of .ensures ∙ ap (slotOf slots) (first .before .wide .ensures))
+    (c .entry-of2 .ensures ∙ ap (slotOf slots) (last .wide2 .ensures ∙ last .before .last-part .ensures))
     ∙ sym (step-with slots key (test .if1 .left))
 
 pub step-of-spec : {M : Type 1} → statement M
@@ -46,8 +46,8 @@ step-of-spec =
     (tie.spec
     returns
     wide-requires
-    slot-of-requires
+    entry-of-requires
     last-part-requires
     wide-requires-2
-    slot-of-requires-2
+    entry-of-requires-2
     returns-2)

@@ -46,18 +46,18 @@ compared c =
     let own-also = turn .before in
     let own-here = own-also .before .before in
     let args = own-here .before .before .before .before .before .args in
-    same-at (args .table .now) (args .slots .now) (args .side .now) (args .own) _ (own-here .here-in .ensures) (own-here .before .slot-of .ensures)
-    (own-also .also-in .ensures) (own-also .before .slot-of2 .ensures)
-    (here .here-in2 .ensures) (also .also-in2 .ensures) (slot .slot-of3 .ensures) (named .formula-at .ensures) (c .same-both .ensures)
+    same-at (args .table .now) (args .slots .now) (args .side .now) (args .own) _ (own-here .here-in .ensures) (own-here .before .entry-of .ensures)
+    (own-also .also-in .ensures) (own-also .before .entry-of2 .ensures)
+    (here .here-in2 .ensures) (also .also-in2 .ensures) (slot .entry-of3 .ensures) (named .formula-at .ensures) (c .same-both .ensures)
 
-slot-of-requires : tie.Need-slot-of-requires Inv-loop μ-loop
-slot-of-requires c κs = search needs
+entry-of-requires : tie.Need-entry-of-requires Inv-loop μ-loop
+entry-of-requires c κs = search needs
 
 here-in-requires : tie.Need-here-in-requires Inv-loop μ-loop
 here-in-requires c κs = search needs
 
-slot-of-requires-2 : tie.Need-slot-of-requires-2 Inv-loop μ-loop
-slot-of-requires-2 c κs = search needs
+entry-of-requires-2 : tie.Need-entry-of-requires-2 Inv-loop μ-loop
+entry-of-requires-2 c κs = search needs
 
 also-in-requires : tie.Need-also-in-requires Inv-loop μ-loop
 also-in-requires c κs = search needs
@@ -77,8 +77,8 @@ without-first-requires c κs = search needs
 formula-at-requires : tie.Need-formula-at-requires Inv-loop μ-loop
 formula-at-requires c κs = search needs
 
-slot-of-requires-3 : tie.Need-slot-of-requires-3 Inv-loop μ-loop
-slot-of-requires-3 c κs = search needs
+entry-of-requires-3 : tie.Need-entry-of-requires-3 Inv-loop μ-loop
+entry-of-requires-3 c κs = search needs
 
 here-in-requires-2 : tie.Need-here-in-requires-2 Inv-loop μ-loop
 here-in-requires-2 c κs = search needs
@@ -125,16 +125,16 @@ still-alike-spec =
     (tie.spec
     Inv-loop
     μ-loop
-    slot-of-requires
+    entry-of-requires
     here-in-requires
-    slot-of-requires-2
+    entry-of-requires-2
     also-in-requires
     loop-holds
     is-empty-requires
     first-requires
     without-first-requires
     formula-at-requires
-    slot-of-requires-3
+    entry-of-requires-3
     here-in-requires-2
     also-in-requires-2
     same-both-requires
