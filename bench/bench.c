@@ -1,24 +1,10 @@
 /* Times the proved checker beside the unverified one of fast.c, on accepted files near the format's limits: the same texts, lent
  * tables and process, through the same signature. Every call of either clears the tables first. Some files are also told in words, in
  * a lent text that these fill. Files with the slowest models and the slowest rows of `swap` that there are stand apart, since these take
- * the most time by far; and so do lines that mean as many entries as a line can, which are refused. */
-#include <stdio.h>
-#include <stdlib.h>
-#include <string.h>
-#include <time.h>
-
-#include "govelamuth.h"
-#include "shapes.h"
-
-/* The entries of fast.c, which is compiled under these names. */
-__typeof__(elk_judge) fast_judge;
-__typeof__(elk_words) fast_words;
+ * the most time by far; and so do lines that mean as many entries as a line can, which are refused, and open files (open.c). */
+#include "timing.h"
 
 /* ---- both checkers on one text */
-
-struct tables {
-    uint16_t names[128], formulas[3 * MOST_FORMULAS], rows[8 * MOST_ROWS], left[MOST_ENTRIES], right[MOST_ENTRIES];
-};
 
 static struct elk_answer judged_by(__typeof__(elk_judge) *judge, const struct text *t, struct tables *lent) {
     return judge((const uint8_t *)t->bytes, t->length, lent->names, 128, lent->formulas, 3 * MOST_FORMULAS,
@@ -44,27 +30,19 @@ static void agree(const char *name, const struct text *t, unsigned number) {
 }
 
 static double microseconds(__typeof__(elk_judge) *judge, const struct text *t, struct tables *lent) {
-    struct timespec start, end;
-    clock_gettime(CLOCK_MONOTONIC, &start);
+    struct timespec start = now();
     judged_by(judge, t, lent);
-    clock_gettime(CLOCK_MONOTONIC, &end);
-    return (double)(end.tv_sec - start.tv_sec) * 1e6 + (double)(end.tv_nsec - start.tv_nsec) / 1e3;
+    return microseconds_since(start);
 }
 
-enum { REPETITIONS = 300, MODEL_REPETITIONS = 5, SIZES = 4 };
+enum { MODEL_REPETITIONS = 5, SIZES = 4 };
 
-/* The best times of both, taken in turn. */
-struct times {
-    bool taken;
-    double proved, fast;
-};
-
+/* Both are taken in turn. */
 static struct times times_of(const struct text *t, int repetitions) {
-    struct times best = {true, 1e9, 1e9};
+    struct times best = {0};
     for (int i = 0; i < repetitions; i++) {
         double proved = microseconds(elk_judge, t, &proved_tables), fast = microseconds(fast_judge, t, &fast_tables);
-        best.proved = proved < best.proved ? proved : best.proved;
-        best.fast = fast < best.fast ? fast : best.fast;
+        keep_best(&best, proved, fast);
     }
     return best;
 }
@@ -95,31 +73,19 @@ static size_t agreed_words(const struct shape *shape, const struct text *t) {
 }
 
 static double microseconds_told(__typeof__(elk_words) *tell, const struct text *t, struct tables *lent, uint8_t *words, size_t length) {
-    struct timespec start, end;
-    clock_gettime(CLOCK_MONOTONIC, &start);
+    struct timespec start = now();
     told_by(tell, t, lent, words, length);
-    clock_gettime(CLOCK_MONOTONIC, &end);
-    return (double)(end.tv_sec - start.tv_sec) * 1e6 + (double)(end.tv_nsec - start.tv_nsec) / 1e3;
+    return microseconds_since(start);
 }
 
 static struct times times_told(const struct text *t, size_t length) {
-    struct times best = {true, 1e9, 1e9};
+    struct times best = {0};
     for (int i = 0; i < REPETITIONS; i++) {
         double proved = microseconds_told(elk_words, t, &proved_tables, proved_words, length);
         double fast = microseconds_told(fast_words, t, &fast_tables, fast_written, length);
-        best.proved = proved < best.proved ? proved : best.proved;
-        best.fast = fast < best.fast ? fast : best.fast;
+        keep_best(&best, proved, fast);
     }
     return best;
-}
-
-static void print_heading(const char *table) {
-    printf("%-16s %7s %6s %9s %6s %10s %11s %7s\n", table, "bytes", "atoms", "formulas", "rows", "proved", "unverified", "ratio");
-}
-
-static void print_times(const char *name, size_t bytes, const struct file *f, struct times best) {
-    printf("%-16s %7zu %6d %9d %6d %10.1f %11.1f %7.2f\n", name, bytes, f->atoms, f->formulas, f->rows, best.proved, best.fast,
-           best.proved / best.fast);
 }
 
 /* The largest files of shapes that take far longer than others. */
@@ -196,5 +162,8 @@ int main(int words, char **word) {
         agree(long_lines[i].name, &text, long_lines[i].number);
         print_times(long_lines[i].name, text.length, &file, times_of(&text, REPETITIONS));
     }
+
+    printf("\n");
+    print_open_files();
     return 0;
 }

@@ -5,7 +5,7 @@
  * read: the number of its negation, its atoms, and what it can be in unst. Sides are compared with two cursors. The formulas that B of
  * swap can be are judged together, as far as they can, and what is under them is worked out for 243 pairs at once, or for 729. A model is
  * tried against one part of it after the other, with the truth of each formula that the sheet rests on worked out in the order of the
- * formulas. */
+ * formulas. Tables that are handed in with a row are judged in the order of the lines that they stand for. */
 #include <stdbool.h>
 #include <string.h>
 
@@ -190,7 +190,8 @@ static inline bool read_run(const uint8_t **at, uint32_t first, uint16_t *entrie
 enum items { NUMBERS, NUMBERS_AND_RUNS };
 
 /* The entries are stored as far as there is room. */
-static inline bool read_list(const uint8_t **at, uint8_t stop, enum items items, uint16_t *entries, uint32_t room, struct list *list) {
+static inline __attribute__((always_inline)) bool read_list(const uint8_t **at, uint8_t stop, enum items items, uint16_t *entries,
+                                                            uint32_t room, struct list *list) {
     *list = (struct list){0, 0, true};
     if (**at == '-')
         return read_dash(at, stop);
@@ -371,6 +372,14 @@ static struct traits traits_of(const struct checker *c, struct node n) {
     return t;
 }
 
+/* Works out what is asked of the next formula, and counts it. */
+static inline void learn(struct checker *c, struct node node) {
+    c->traits[c->formulas] = traits_of(c, node);
+    if (node.word == NOT)
+        c->traits[node.first].negation = (uint16_t)c->formulas;
+    c->formulas++;
+}
+
 static uint32_t formula_line(struct checker *c, const uint8_t **at) {
     uint32_t number, word = 0, first = ABSENT, second = ABSENT;
     if (!read_number(at, '\t', &number))
@@ -393,10 +402,7 @@ static uint32_t formula_line(struct checker *c, const uint8_t **at) {
     if (formula_exists(c, node))
         return FORMULA_AGAIN;
     c->nodes[number] = node;
-    c->traits[number] = traits_of(c, node);
-    if (word == NOT)
-        c->traits[first].negation = (uint16_t)number;
-    c->formulas++;
+    learn(c, node);
     c->stage = 1;
     return ACCEPTED;
 }
@@ -856,12 +862,13 @@ static uint32_t swap_step(struct checker *c, uint32_t a, struct sequent conclusi
     return judge_candidates(c, a, candidates);
 }
 
-static uint32_t judge_row(struct checker *c, const struct row *r, bool named, uint32_t premises) {
+static uint32_t judge_row(struct checker *c, const struct row *r, uint32_t premises, struct sequent conclusion) {
     const struct rule *rule = &rules[r->rule];
     bool refutation = is_refutation(r->rule);
+    bool named = r->principal != ABSENT;
     if (named != (rule->form != UNST && rule->form != XINI) || premises != rule->premises)
         return WRONG_PREMISES;
-    struct sequent conclusion = sides_of(c, r), above[2] = {0};
+    struct sequent above[2] = {0};
     for (uint32_t i = 0; i < premises; i++) {
         const struct row *premise = &c->rows[r->premises[i]];
         if (is_refutation(premise->rule) != (refutation || (rule->form == UNST && i == 1)))
@@ -895,45 +902,74 @@ static inline bool ahead(struct list list, uint32_t held) { return list.count > 
 
 static inline bool bad_side(struct list list) { return !list.rising || list.count > ON_SIDE; }
 
-static uint32_t row_line(struct checker *c, const uint8_t **at) {
-    uint32_t number, principal = ABSENT;
-    if (!read_number(at, '\t', &number))
-        return BAD_LINE;
-    uint32_t rule = rule_of(c, read_word(c, at));
-    if (rule == RULES)
-        return BAD_LINE;
-    bool named = **at != '-';
-    if (!(named ? read_number(at, '\t', &principal) : read_dash(at, '\t')))
-        return BAD_LINE;
-    uint16_t above[2] = {ABSENT, ABSENT};
+/* A row as its line has it. */
+struct draft {
+    uint32_t number, rule, principal;
+    bool named;
+    uint16_t above[2];
     struct list premises, left, right;
-    if (!read_list(at, '\t', NUMBERS, above, 2, &premises)
-        || !read_list(at, '\t', NUMBERS_AND_RUNS, c->left + c->left_used, ENTRIES - c->left_used, &left)
-        || !read_list(at, '\n', NUMBERS_AND_RUNS, c->right + c->right_used, ENTRIES - c->right_used, &right))
-        return BAD_LINE;
-    if (c->stage > 2 || number != c->row_count)
+};
+
+/* The sides are stored as far as there is room. */
+static inline __attribute__((always_inline)) bool read_row(const struct checker *c, const uint8_t **at, uint16_t *left, uint32_t left_room,
+                                                           uint16_t *right, uint32_t right_room, struct draft *d) {
+    if (!read_number(at, '\t', &d->number))
+        return false;
+    d->rule = rule_of(c, read_word(c, at));
+    if (d->rule == RULES)
+        return false;
+    d->principal = d->above[0] = d->above[1] = ABSENT;
+    d->named = **at != '-';
+    return (d->named ? read_number(at, '\t', &d->principal) : read_dash(at, '\t'))
+        && read_list(at, '\t', NUMBERS, d->above, 2, &d->premises)
+        && read_list(at, '\t', NUMBERS_AND_RUNS, left, left_room, &d->left)
+        && read_list(at, '\n', NUMBERS_AND_RUNS, right, right_room, &d->right);
+}
+
+/* The numbers that come before the rule's. */
+static inline uint32_t early_number(const struct checker *c, const struct draft *d) {
+    if (d->number != c->row_count)
         return OUT_OF_ORDER;
-    if (number == ROWS || left.count > ENTRIES - c->left_used || right.count > ENTRIES - c->right_used)
+    if (d->number == ROWS || d->left.count > ENTRIES - c->left_used || d->right.count > ENTRIES - c->right_used)
         return FULL;
-    if ((named && principal >= c->formulas) || ahead(premises, number) || ahead(left, c->formulas) || ahead(right, c->formulas))
+    if ((d->named && d->principal >= c->formulas) || ahead(d->premises, d->number) || ahead(d->left, c->formulas)
+        || ahead(d->right, c->formulas))
         return NO_SUCH_ITEM;
-    if (bad_side(left) || bad_side(right))
-        return BAD_SIDE;
-    struct row *row = &c->rows[number];
-    *row = (struct row){
-        .rule = (uint16_t)rule,
-        .principal = (uint16_t)principal,
-        .premises = {above[0], above[1]},
+    return bad_side(d->left) || bad_side(d->right) ? BAD_SIDE : ACCEPTED;
+}
+
+static inline struct row stored(const struct checker *c, const struct draft *d) {
+    return (struct row){
+        .rule = (uint16_t)d->rule,
+        .principal = (uint16_t)d->principal,
+        .premises = {d->above[0], d->above[1]},
         .left_start = (uint16_t)c->left_used,
-        .left_length = (uint16_t)left.count,
+        .left_length = (uint16_t)d->left.count,
         .right_start = (uint16_t)c->right_used,
-        .right_length = (uint16_t)right.count,
+        .right_length = (uint16_t)d->right.count,
     };
-    c->left_used += left.count;
-    c->right_used += right.count;
+}
+
+static inline void count_row(struct checker *c, const struct row *row) {
+    c->left_used += row->left_length;
+    c->right_used += row->right_length;
     c->row_count++;
+}
+
+static uint32_t row_line(struct checker *c, const uint8_t **at) {
+    struct draft d;
+    if (!read_row(c, at, c->left + c->left_used, ENTRIES - c->left_used, c->right + c->right_used, ENTRIES - c->right_used, &d))
+        return BAD_LINE;
+    if (c->stage > 2)
+        return OUT_OF_ORDER;
+    uint32_t early = early_number(c, &d);
+    if (early != ACCEPTED)
+        return early;
+    struct row *row = &c->rows[d.number];
+    *row = stored(c, &d);
+    count_row(c, row);
     c->stage = 2;
-    return judge_row(c, row, named, premises.count);
+    return judge_row(c, row, d.premises.count, sides_of(c, row));
 }
 
 /* ---- the M line */
@@ -1099,7 +1135,9 @@ static uint32_t judge_line(struct checker *c, const uint8_t **at) {
     }
 }
 
-static struct elk_answer judge_lines(struct checker *c, size_t text_length) {
+enum extent { WHOLE, BEGINNING };
+
+static struct elk_answer judge_lines(struct checker *c, size_t text_length, enum extent extent) {
     const uint8_t *at = c->text, *text_end = c->text + text_length;
     uint32_t number = ACCEPTED;
     while (at < c->end && number == ACCEPTED) {
@@ -1112,7 +1150,7 @@ static struct elk_answer judge_lines(struct checker *c, size_t text_length) {
         return (struct elk_answer){number, c->line};
     if (c->end != text_end)
         return (struct elk_answer){BAD_LINE, c->line + 1};
-    if (c->stage != 4)
+    if (c->stage != 4 && extent == WHOLE)
         return (struct elk_answer){NO_CLAIM, c->line + 1};
     return (struct elk_answer){ACCEPTED, c->line};
 }
@@ -1129,14 +1167,14 @@ static void clear(const struct table lent[TABLES]) {
         memset(lent[i].at, 0, lent[i].length * sizeof *lent[i].at);
 }
 
-/* Judges a text in the lent tables, and counts the rows of an accepted one. */
-static struct elk_answer judged(const uint8_t *text, size_t text_length, const struct table lent[TABLES], uint32_t *row_count) {
+/* Judges a text in the lent tables, and counts what they hold. */
+static struct elk_opened judged(const uint8_t *text, size_t text_length, const struct table lent[TABLES], enum extent extent) {
     clear(lent);
     if (lent[0].length < 2 * ATOMS || lent[1].length < 3 * FORMULAS || lent[2].length < 8 * ROWS || lent[3].length < ENTRIES
         || lent[4].length < ENTRIES)
-        return (struct elk_answer){SHORT_TABLE, 0};
+        return (struct elk_opened){{SHORT_TABLE, 0}, {0}};
     if (text_length > BYTES)
-        return (struct elk_answer){TOO_LONG, 0};
+        return (struct elk_opened){{TOO_LONG, 0}, {0}};
 
     struct checker c;
     memset(&c, 0, offsetof(struct checker, traits));
@@ -1150,11 +1188,12 @@ static struct elk_answer judged(const uint8_t *text, size_t text_length, const s
     c.left = lent[3].at;
     c.right = lent[4].at;
     enter_words(&c);
-    struct elk_answer answer = judge_lines(&c, text_length);
-    if (answer.number != ACCEPTED)
+    struct elk_answer answer = judge_lines(&c, text_length, extent);
+    if (answer.number != ACCEPTED) {
         clear(lent);
-    *row_count = c.row_count;
-    return answer;
+        return (struct elk_opened){answer, {0}};
+    }
+    return (struct elk_opened){answer, {c.atoms, c.formulas, c.row_count, c.left_used, c.right_used}};
 }
 
 struct elk_answer elk_judge(const uint8_t *text, size_t text_length,
@@ -1166,13 +1205,170 @@ struct elk_answer elk_judge(const uint8_t *text, size_t text_length,
     struct table lent[TABLES] = {
         {names, names_length}, {formulas, formulas_length}, {rows, rows_length}, {left, left_length}, {right, right_length},
     };
-    uint32_t row_count;
-    return judged(text, text_length, lent, &row_count);
+    return judged(text, text_length, lent, WHOLE).answer;
+}
+
+struct elk_opened elk_open(const uint8_t *text, size_t text_length,
+                           uint16_t *names, size_t names_length,
+                           uint16_t *formulas, size_t formulas_length,
+                           uint16_t *rows, size_t rows_length,
+                           uint16_t *left, size_t left_length,
+                           uint16_t *right, size_t right_length) {
+    struct table lent[TABLES] = {
+        {names, names_length}, {formulas, formulas_length}, {rows, rows_length}, {left, left_length}, {right, right_length},
+    };
+    return judged(text, text_length, lent, BEGINNING);
 }
 
 struct elk_answer elk_check(const uint8_t *text, size_t text_length) {
     uint16_t names[2 * ATOMS], formulas[3 * FORMULAS], rows[8 * ROWS], left[ENTRIES], right[ENTRIES];
     return elk_judge(text, text_length, names, 2 * ATOMS, formulas, 3 * FORMULAS, rows, 8 * ROWS, left, ENTRIES, right, ENTRIES);
+}
+
+/* ---- a row after tables that were handed in. A row is read into room of its own, so that a refusal leaves nothing to take back. */
+
+/* Where an open file is read; where it is written is the caller's affair. */
+struct handed {
+    const uint16_t *formulas, *rows, *left, *right;
+    size_t formulas_length, rows_length, left_length, right_length;
+};
+
+struct tried {
+    struct elk_answer answer;
+    struct row row;
+    uint16_t left[ON_SIDE], right[ON_SIDE];
+};
+
+static bool zero_from(const uint16_t *table, size_t used, size_t length) {
+    uint16_t seen = 0;
+    for (size_t i = used; i < length; i++)
+        seen |= table[i];
+    return seen == 0;
+}
+
+static bool formulas_stand(struct checker *c, size_t count) {
+    for (size_t i = 0; i < count; i++) {
+        struct node n = c->nodes[i];
+        bool parts;
+        switch (n.word) {
+        case BOT:
+            parts = n.first == ABSENT && n.second == ABSENT;
+            break;
+        case ATOM:
+            parts = n.first < c->atoms && n.second == ABSENT;
+            break;
+        case NOT:
+            parts = n.first < i && n.second == ABSENT;
+            break;
+        default:
+            parts = n.word <= IMP && n.first < i && n.second < i;
+        }
+        if (!parts || formula_exists(c, n))
+            return false;
+        learn(c, n);
+    }
+    return true;
+}
+
+static bool side_stands(struct side s, size_t formulas) {
+    for (uint32_t i = 1; i < s.count; i++)
+        if (s.at[i - 1] >= s.at[i])
+            return false;
+    return s.count == 0 || s.at[s.count - 1] < formulas;
+}
+
+static bool rows_stand(struct checker *c, struct elk_counts counts) {
+    while (c->row_count < counts.rows) {
+        const struct row *r = &c->rows[c->row_count];
+        uint32_t premises = (r->premises[0] != ABSENT) + (r->premises[1] != ABSENT);
+        if (r->rule >= RULES || (r->principal != ABSENT && r->principal >= counts.formulas)
+            || (premises > 0 && r->premises[0] >= c->row_count) || (premises > 1 && r->premises[1] >= c->row_count))
+            return false;
+        if (r->left_start != c->left_used || r->left_length > ON_SIDE || r->left_length > counts.left - c->left_used
+            || r->right_start != c->right_used || r->right_length > ON_SIDE || r->right_length > counts.right - c->right_used)
+            return false;
+        struct sequent conclusion = sides_of(c, r);
+        if (!side_stands(conclusion.left, counts.formulas) || !side_stands(conclusion.right, counts.formulas)
+            || judge_row(c, r, premises, conclusion) != ACCEPTED)
+            return false;
+        count_row(c, r);
+    }
+    return c->left_used == counts.left && c->right_used == counts.right;
+}
+
+static bool within_limits(struct elk_counts counts) {
+    return counts.atoms <= ATOMS && counts.formulas <= FORMULAS && counts.rows <= ROWS && counts.left <= ENTRIES && counts.right <= ENTRIES;
+}
+
+/* The number of a row's text, and the row if that is 0. Apart, so that the lines of whole texts are compiled as if alone. */
+static __attribute__((noinline)) uint32_t try_text(struct checker *c, const uint8_t *text, size_t text_length, struct tried *tried) {
+    const uint8_t *at = text;
+    struct draft d;
+    c->end = text + text_length;
+    if (text_length == 0 || memchr(text, '\n', text_length) != c->end - 1 || *at++ != 'N' || *at++ != '\t'
+        || !read_row(c, &at, tried->left, ON_SIDE, tried->right, ON_SIDE, &d))
+        return BAD_LINE;
+    uint32_t early = early_number(c, &d);
+    if (early != ACCEPTED)
+        return early;
+    tried->row = stored(c, &d);
+    return judge_row(c, &tried->row, d.premises.count, (struct sequent){{tried->left, d.left.count}, {tried->right, d.right.count}});
+}
+
+static void try_row(const uint8_t *text, size_t text_length, const struct handed *file, struct elk_counts counts, struct tried *tried) {
+    tried->answer = (struct elk_answer){SHORT_TABLE, 0};
+    if (file->formulas_length < 3 * FORMULAS || file->rows_length < 8 * ROWS || file->left_length < ENTRIES || file->right_length < ENTRIES)
+        return;
+    tried->answer.number = OUT_OF_ORDER;
+    if (!within_limits(counts) || !zero_from(file->formulas, 3 * counts.formulas, file->formulas_length)
+        || !zero_from(file->rows, 8 * counts.rows, file->rows_length) || !zero_from(file->left, counts.left, file->left_length)
+        || !zero_from(file->right, counts.right, file->right_length))
+        return;
+    struct checker c;
+    memset(&c, 0, offsetof(struct checker, traits));
+    c.nodes = (struct node *)file->formulas;
+    c.rows = (struct row *)file->rows;
+    c.left = (uint16_t *)file->left;
+    c.right = (uint16_t *)file->right;
+    c.atoms = (uint32_t)counts.atoms;
+    if (!formulas_stand(&c, counts.formulas) || !rows_stand(&c, counts))
+        return;
+    tried->answer.number = TOO_LONG;
+    if (text_length > BYTES)
+        return;
+    enter_words(&c);
+    tried->answer = (struct elk_answer){try_text(&c, text, text_length, tried), 1};
+}
+
+struct elk_opened elk_add(const uint8_t *text, size_t text_length,
+                          const uint16_t *formulas, size_t formulas_length,
+                          uint16_t *rows, size_t rows_length,
+                          uint16_t *left, size_t left_length,
+                          uint16_t *right, size_t right_length,
+                          struct elk_counts counts) {
+    struct handed file = {formulas, rows, left, right, formulas_length, rows_length, left_length, right_length};
+    struct tried tried;
+    try_row(text, text_length, &file, counts, &tried);
+    if (tried.answer.number == ACCEPTED) {
+        memcpy(rows + 8 * counts.rows++, &tried.row, sizeof tried.row);
+        memcpy(left + counts.left, tried.left, tried.row.left_length * sizeof *left);
+        memcpy(right + counts.right, tried.right, tried.row.right_length * sizeof *right);
+        counts.left += tried.row.left_length;
+        counts.right += tried.row.right_length;
+    }
+    return (struct elk_opened){tried.answer, counts};
+}
+
+struct elk_answer elk_preview(const uint8_t *text, size_t text_length,
+                              const uint16_t *formulas, size_t formulas_length,
+                              const uint16_t *rows, size_t rows_length,
+                              const uint16_t *left, size_t left_length,
+                              const uint16_t *right, size_t right_length,
+                              struct elk_counts counts) {
+    struct handed file = {formulas, rows, left, right, formulas_length, rows_length, left_length, right_length};
+    struct tried tried;
+    try_row(text, text_length, &file, counts, &tried);
+    return tried.answer;
 }
 
 /* ---- rows in words: written straight from the filled tables */
@@ -1322,10 +1518,10 @@ struct elk_answer elk_words(const uint8_t *text, size_t text_length,
     struct table lent[TABLES] = {
         {names, names_length}, {formulas, formulas_length}, {rows, rows_length}, {left, left_length}, {right, right_length},
     };
-    uint32_t row_count = 0;
-    struct elk_answer answer = judged(text, text_length, lent, &row_count);
+    struct elk_opened file = judged(text, text_length, lent, WHOLE);
+    struct elk_answer answer = file.answer;
     struct writer w = {words, words + words_length, text, (struct name *)names, (struct node *)formulas};
-    for (uint32_t i = 0; answer.number == ACCEPTED && i < row_count; i++)
+    for (uint32_t i = 0; answer.number == ACCEPTED && i < file.counts.rows; i++)
         if (!put_sentence(&w, i, (struct row *)rows + i, left, right)) {
             clear(lent);
             w.at = words;

@@ -1,5 +1,5 @@
 -- What the answer after the complete lines says of the text: it is accepted, and the tables hold its file, or it is refused.
-use Prim.Native.Nat.{suc, _≤_, _<_}
+use Prim.Native.Nat.{suc, _+_, _≤_, _<_}
 use native.Mathlib.Omega.{arith}
 use mathlib.Core.Path.{_≡_, refl, sym, ap, _∙_}
 use mathlib.Core.Bool.{Bool, true, false}
@@ -10,10 +10,10 @@ use lib.Dec.{eqb, ltb}
 use lib.ListN.{length, getD, drop, drop-of-length-le}
 use lib.Seq.{drop-cons}
 use borrow.Author.Tests.{ltb-true, ltb-false, eqb-true, eqb-false}
-use Rattle.format.specs.Text.{Bytes, partsAt, lineFeed}
-use Rattle.format.specs.File.{Claim, Stage, in-atoms, in-formulas, in-rows, modelled, claimed, noFile}
+use Rattle.format.specs.Text.{Bytes, partsAt, lineFeed, linesOf}
+use Rattle.format.specs.File.{File, Claim, Stage, in-atoms, in-formulas, in-rows, modelled, claimed, noFile}
 use Rattle.format.specs.Tests.{rank}
-use Rattle.format.specs.Judged.{top, accepted, turnedDown, orNoClaim, runFrom, answerFrom}
+use Rattle.format.specs.Judged.{Outcome, beginning, top, accepted, turnedDown, orNoClaim, finish, runFrom, answerFrom}
 use Rattle.format.proofs.Stepping.{answer-stub, run-end, answer-end}
 use Rattle.parts.proofs.PartLaws.{next-bounds, last-part}
 use Rattle.parts.specs.Refusals.{badLine}
@@ -25,7 +25,9 @@ use Rattle.answers.specs.Answers.{answer, answerBy, finished, Accepts, R
 module _ (text : Bytes) (ran : Ran) (t : Memory) (runs : Runs text ran t) where
   -- a line was refused
   ends-refused : (ran .number ≡ 0 → ⊥) → Refuses text (answer (ran .number) (ran .line))
-  ends-refused ne = record { number = ne; line = runs .refused ne }
+  unfolding beginning
+  ends-refused ne =
+      record { number = ne; line = ap (λ (o : Outcome File). finish o (linesOf text .rest) (1 + length (linesOf text .complete))) (runs .refuses ne) }
 
   module _ (passed : ran .number ≡ 0) where
     at-end : Running text (ran .line) (ran .at) (ran .state) t

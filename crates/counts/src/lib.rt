@@ -13,6 +13,7 @@ use crate::limits::MOST_ENTRIES;
 use crate::limits::MOST_FORMULAS;
 use crate::limits::MOST_ROWS;
 
+#[repr(C)]
 pub struct Counts {
     pub atoms: usize,
     pub formulas: usize,

@@ -1,8 +1,11 @@
 // Judges standard input: reads it to its end and prints refusal number, tab, line and line feed. Started with the word `words`
-// it prints the rows of an accepted file in words instead. If reading or writing fails it says so on standard error, and a
-// failed read leaves standard output empty: trouble never looks like a verdict. A failed write may leave some sentences.
+// it prints the rows of an accepted file in words instead. Started with `try` and a number it opens a beginning of so many bytes, and
+// tries the row that follows it: the answer of opening, and where that is 0 a second line with the row's. If reading or writing fails
+// it says so on standard error, and a failed read leaves standard output empty: trouble never looks like a verdict. A failed write may
+// leave some sentences.
 ghost use Prim.Native.Nat.{_≤_};
 ghost use lib.ListN.{length};
+use adding::OpenFile;
 use answers::Answer;
 use counts::limits::LEAST_FORMULAS;
 use counts::limits::LEAST_NAMES;
@@ -11,8 +14,11 @@ use counts::limits::MOST_ENTRIES;
 use govelamuth::elk_check;
 use libc::STDIN_FILENO;
 use libc::STDOUT_FILENO;
+use opening::open;
 use parts::find;
 use tell::tell;
+use text::numbers::Number;
+use text::numbers::read_number;
 
 // What reading brought. No bytes and no failure is the input's end.
 struct Input {
@@ -71,8 +77,8 @@ fn drain(buffer: &mut [u8]) -> bool {
     false
 }
 
-// Reads the whole input and tells how many bytes of it the buffer holds. One that fills the buffer is read on to its end, over
-// what came before.
+// Reads the whole input and tells how many bytes of it the buffer holds. One that fills the buffer is read on to its end; the buffer
+// keeps what came first.
 fn read_all(buffer: &mut [u8]) -> Input
     ensures { λ r. ⌜ r .count ≤ length (now (buffer .exit)) ⌝ }
 {
@@ -83,9 +89,10 @@ fn read_all(buffer: &mut [u8]) -> Input
     if held.count < buffer.len() {
         return held;
     }
+    let mut rest = [0u8; 4096];
     Input {
         count: held.count,
-        failed: !drain(buffer),
+        failed: !drain(&mut rest),
     }
 }
 
@@ -155,16 +162,81 @@ fn print_words(text: &[u8]) -> bool {
     print_held(&words)
 }
 
+// Whether the program was started with the word `try`.
+fn wants_trial() -> bool {
+    let mut word = [0u8; 4];
+    let length = os::arg(1, &mut word);
+    if length != 3 {
+        return false;
+    }
+    if word[0] != b't' {
+        return false;
+    }
+    if word[1] != b'r' {
+        return false;
+    }
+    word[2] == b'y'
+}
+
+// The number that the second word is. One of over five digits counts as the most of five: it is longer than any text, too.
+fn beginning_length() -> usize {
+    let mut word = [0u8; 5];
+    let length = os::arg(2, &mut word);
+    let number = read_number(&word[..length]);
+    match number {
+        Number::Value(n) => n as usize,
+        Number::Bad => 99999,
+    }
+}
+
+// The answer to a beginning and, where that is 0, the answer to the row.
+fn print_both(beginning: &[u8], row: &[u8]) -> bool {
+    let mut names = [0u16; LEAST_NAMES];
+    let mut formulas = [0u16; LEAST_FORMULAS];
+    let mut rows = [0u16; LEAST_ROWS];
+    let mut left = [0u16; MOST_ENTRIES];
+    let mut right = [0u16; MOST_ENTRIES];
+    let opened = open(
+        beginning,
+        &mut names,
+        &mut formulas,
+        &mut rows,
+        &mut left,
+        &mut right,
+    );
+    let answer = opened.answer;
+    if !print(answer) {
+        return false;
+    }
+    if answer.number != 0 {
+        return true;
+    }
+    let counts = opened.counts;
+    let file = OpenFile { counts };
+    print(file.preview(row, &formulas, &rows, &left, &right))
+}
+
+// A text of a beginning, of so many bytes, and a row.
+fn print_trial(text: &[u8], length: usize) -> bool {
+    if text.len() < length {
+        return print_both(text, &text[..0]);
+    }
+    print_both(&text[..length], &text[length..])
+}
+
 fn answer(text: &[u8]) -> bool {
     if wants_words() {
         return print_words(text);
     }
+    if wants_trial() {
+        return print_trial(text, beginning_length());
+    }
     print(elk_check(text))
 }
 
-// The buffer has room for one byte more than a text may have, so an input that fills it is judged too long.
+// The buffer has room for two texts, each with one byte more than a text may have, so that one which is cut off is judged too long.
 fn main() {
-    let mut buffer = [0u8; 65537];
+    let mut buffer = [0u8; 131074];
     let text = read_all(&mut buffer);
     let n = text.count;
     if text.failed {

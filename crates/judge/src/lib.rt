@@ -32,6 +32,7 @@ pub fn clear_all(
 }
 
 // The answer, and the counts of the file that the tables hold; of none where the text is refused.
+#[repr(C)]
 pub struct Judged {
     pub answer: Answer,
     pub counts: Counts,

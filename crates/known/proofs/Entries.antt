@@ -4,7 +4,7 @@ use native.Mathlib.Omega.{arith}
 use mathlib.Core.Bool.{Bool, true, _||_, or-true}
 use mathlib.Core.List.{List, [], _∷_}
 use mathlib.Core.Option.{Option, some}
-use mathlib.Core.Path.{_≡_, refl, sym, ap, ap₂, _∙_}
+use mathlib.Core.Path.{_≡_, refl, sym, ap, ap₂, subst, _∙_}
 use borrow.Author.Tests.{le-leb, lt-leb}
 use lib.Dec.{leb}
 use lib.ListN.{length, getD}
@@ -17,7 +17,7 @@ use Rattle.tables.specs.Records.{recordNumbers}
 use Rattle.tables.specs.Holding.{HoldsNodes}
 use Rattle.tables.specs.declared.records.NodeRecord.{NodeRecord}
 use Rattle.known.specs.Index.{Indexed, NodeFound}
-use Rattle.known.specs.Entering.{entryRefusal, Enters, FormulaEntered, full, held, new}
+use Rattle.known.specs.Entering.{entryRefusal, withNew, Enters, FormulaEntered, full, held, new}
 use Rattle.known.specs.declared.Entry.{Entry}
 use Rattle.known.proofs.Indexing.{record-there}
 
@@ -50,3 +50,10 @@ module _ {formulas notes : List ℕ} (nodes : List Node) (holds : HoldsNodes nod
 pub formula-entered : {formulas notes : List ℕ} {count : ℕ} {key : NodeRecord} {formulas′ notes′ : List ℕ} {r : Entry}
     → Enters formulas notes count key formulas′ notes′ r → FormulaEntered formulas notes count key formulas′ notes′ r
 formula-entered entry = record { entry = entry; refusal = λ nodes holds index. refusal-is nodes holds index entry }
+
+-- the table that a formula was put into, or that stayed as it was, is the one that the answer says
+pub entered-by : {formulas notes : List ℕ} {count : ℕ} {key : NodeRecord} {formulas′ notes′ : List ℕ} {r : Entry}
+    → FormulaEntered formulas notes count key (withNew formulas count key r) notes′ r → (q : Entry) → r ≡ q → formulas′ ≡ withNew formulas count key q
+    → FormulaEntered formulas notes count key formulas′ notes′ r
+entered-by {formulas} {notes} {count} {key} {formulas′} {notes′} {r} h q e put =
+    subst (λ (l : List ℕ). FormulaEntered formulas notes count key l notes′ r) (ap (withNew formulas count key) e ∙ sym put) h

@@ -23,6 +23,12 @@ entryRefusal (Entry.Held i) = some 8
 entryRefusal (Entry.New i) = none
 entryRefusal Entry.Full = some 5
 
+-- the formulas table after it: a new formula stands after the others
+abbrev pub withNew : List ℕ → ℕ → NodeRecord → Entry → List ℕ
+withNew formulas count key (Entry.Held i) = formulas
+withNew formulas count key (Entry.New i) = written formulas (nodeWidth * count) (recordNumbers key)
+withNew formulas count key Entry.Full = formulas
+
 -- tables with one formula more: its record after the others, its atoms, and its place in the index
 pub record Appended (formulas notes : List ℕ) (count : ℕ) (key : NodeRecord) (formulas′ notes′ : List ℕ) : Type 0 where
   pub atoms : ℕ

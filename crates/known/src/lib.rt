@@ -2,7 +2,7 @@
 mod atoms;
 pub mod index;
 
-ghost use Rattle.known.specs.Entering.{FormulaEntered};
+ghost use Rattle.known.specs.Entering.{withNew, FormulaEntered};
 use crate::atoms::record_atoms;
 use crate::index::Located;
 use crate::index::enter_node;
@@ -19,14 +19,10 @@ pub enum Entry {
     Full,
 }
 
-// Enters a formula into tables that hold `count` of them.
-pub fn enter_formula(
-    formulas: &mut [u16],
-    notes: &mut [u64],
-    count: usize,
-    key: NodeRecord,
-) -> Entry
-    ensures { λ r. ⌜ FormulaEntered (now (formulas .entry)) (now (notes .entry)) count key (now (formulas .exit)) (now (notes .exit)) r ⌝ }
+// Notes what is known of a formula that comes after `count` others; it is for the caller to see that it stands in the table.
+pub fn note_formula(formulas: &[u16], notes: &mut [u64], count: usize, key: NodeRecord) -> Entry
+    ensures { λ r. ⌜ FormulaEntered (now (formulas .entry)) (now (notes .entry)) count key
+        (withNew (now (formulas .entry)) count key r) (now (notes .exit)) r ⌝ }
 {
     if MOST_FORMULAS <= count {
         return Entry::Full;
@@ -38,8 +34,27 @@ pub fn enter_formula(
         }
         Located::Nowhere => {}
     }
-    put_node(formulas, count, key);
     put_note(notes, count, record_atoms(notes, key));
     enter_node(notes, count, key);
     Entry::New(count)
+}
+
+// Enters a formula into tables that hold `count` of them.
+pub fn enter_formula(
+    formulas: &mut [u16],
+    notes: &mut [u64],
+    count: usize,
+    key: NodeRecord,
+) -> Entry
+    ensures { λ r. ⌜ FormulaEntered (now (formulas .entry)) (now (notes .entry)) count key (now (formulas .exit)) (now (notes .exit)) r ⌝ }
+{
+    let entry = note_formula(formulas, notes, count, key);
+    match entry {
+        Entry::New(_) => {
+            put_node(formulas, count, key);
+        }
+        Entry::Held(_) => {}
+        Entry::Full => {}
+    }
+    entry
 }

@@ -3,7 +3,8 @@ pub mod LineLaws
 mod AtomLines
 mod FormulaFields
 mod FormulaLines
-mod RowFields
+pub mod RowFields
+pub mod RowPut
 mod RowLines
 mod ModelLines
 mod ClaimLines

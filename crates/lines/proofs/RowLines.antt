@@ -1,46 +1,35 @@
--- What a row that is well written comes to, and the tables with one row more.
-use Prim.Native.Nat.{ℕ, _+_, _*_, _%_, _≤_}
+-- What a row that is well written comes to.
+use Prim.Native.Nat.{ℕ, _≤_}
 use native.Mathlib.Omega.{arith}
-use mathlib.Core.Path.{_≡_, refl, sym, ap, ap₂, subst, _∙_}
+use mathlib.Core.Path.{_≡_, refl, sym, ap, subst, _∙_}
 use mathlib.Core.Bool.{true, false}
-use mathlib.Core.List.{List, [], _∷_, _++_, List·Memᴰ·head}
+use mathlib.Core.List.{List}
 use mathlib.Core.Option.{Option, none, some}
-use lib.ListN.{length, getD, take}
-use borrow.Author.Tests.{leb-false}
-use Rattle.elk.specs.Rules.{codeOf}
+use lib.ListN.{length, getD}
 use Rattle.format.specs.Text.{Bytes}
-use Rattle.format.specs.File.{Row, in-rows, File, addRow}
+use Rattle.format.specs.File.{Row, in-rows, File}
 use Rattle.format.specs.Line.{rowLine, lineOf}
-use Rattle.format.specs.Tables.{absent, orAbsent, leftPool, rightPool, rowWidth, rowRecord, rowRecords, mostBytes, padded}
-use Rattle.format.specs.Tests.{_when_, rank, first, outOfOrder, listed, unknownFormula, badSide, bodyTests, rowTests}
+use Rattle.format.specs.Tables.{mostBytes}
+use Rattle.format.specs.Tests.{_when_, rank, first, outOfOrder, bodyTests, rowTests}
 use Rattle.format.specs.Judged.{Place, next, settled, step, withRow}
 use Rattle.format.specs.Good.{Good}
-use Rattle.format.proofs.Booleans.{any-false}
-use Rattle.format.proofs.Tested.{passes, PassedRow, passed-row}
-use Rattle.format.proofs.GoodBodies.{good-held}
-use Rattle.format.proofs.Formulas.{known-earlier}
 use Rattle.format.proofs.Stepping.{first-applies, first-passes, step-row}
-use Rattle.text.specs.Numbers.{principalAs}
-use Rattle.text.specs.declared.lists.Listed.{Listed}
-use Rattle.counts.specs.Counts.{countsOf, fullFor, countRow}
-use Rattle.tables.specs.Records.{written, rowNumbers}
+use Rattle.counts.specs.Counts.{countRow}
 use Rattle.counts.specs.declared.Counts.{Counts}
-use Rattle.counts.proofs.Counting.{counts-row}
-use Rattle.tables.proofs.Encoded.{put-row-encoded}
 use Rattle.early.specs.Early.{numbered}
 use Rattle.rows.specs.Judgement.{RowNumbered}
 use Rattle.drafts.specs.declared.Draft.{Draft}
-use Rattle.rows.proofs.EarlyTests.{short-side}
 use Rattle.rows.proofs.Numbering.{numbered-some, numbered-none}
-use Rattle.state.specs.State.{refusedBy, passedBy, Memory, SameLengths, Exactly, Stored, Steps, Keeps}
+use Rattle.state.specs.State.{refusedBy, passedBy, Memory, SameLengths, Stored, Steps, Keeps}
 use Rattle.state.specs.Lined.{Lined}
 use Rattle.lines.specs.RowLines.{otherIn, withRows, RowSettled}
 use Rattle.state.specs.declared.State.{State}
 use Rattle.state.specs.declared.Stepped.{Stepped}
-use Rattle.lines.proofs.RowFields.{small-mod, row-drafted}
-use Rattle.lines.proofs.LineLaws.{keeps-refused, keeps-passed, steps-next, line-refused, written-length, put-exactly, ground}
-use Rattle.drafts.specs.Drafts.{Narrow, Laid, Drafted, principalNumber, draftOf, RowLaid}
-use Rattle.drafts.specs.Storing.{recordOf, RowStored}
+use Rattle.lines.proofs.RowFields.{row-drafted}
+use Rattle.lines.proofs.RowPut.{rows-length, left-length, right-length, counts-same, row-put, left-put, right-put}
+use Rattle.lines.proofs.LineLaws.{keeps-refused, keeps-passed, steps-next, line-refused, ground}
+use Rattle.drafts.specs.Drafts.{Drafted, draftOf, RowLaid}
+use Rattle.drafts.specs.Storing.{RowStored}
 use Rattle.drafts.specs.declared.RowRead.{RowRead}
 use Rattle.state.proofs.Order.{order-same}
 
@@ -90,94 +79,6 @@ module _ (text line : Bytes) (start number : ℕ) (s : State) {n : ℕ} {q : Row
       tests : first (bodyTests (f .body) q) ≡ none
       tests = sym (numbers .given (f .body) q (ground stored good) drafted) ∙ numbered-none k .1 passed
 
-      fits : PassedRow (f .body) q
-      fits = passed-row (f .body) q tests
-
-      short : (side : List ℕ) {listed : Listed} {table : List ℕ} → Laid side listed table → badSide side ≡ false → unknownFormula (f .body) side ≡ false
-          → take (listed .count) table ≡ side
-      short side {listed} {table} laid good-side known =
-          laid .front (short-side side good-side)
-          (λ x m. omega (arith, known-earlier (f .body) side known x m, good-held (good .body) .few-nodes))
-
-      counted : {side : List ℕ} {listed : Listed} {table : List ℕ} → Laid side listed table → badSide side ≡ false → listed .count ≡ length side
-      counted {side} laid good-side =
-          omega (arith, ap (λ (z : Listed). z .count) (laid .answer), short-side side good-side)
-
-      left-is : take (d .left .count) l ≡ q .left
-      left-is = short (q .left) (drafted .left-laid) (fits .left-good) (fits .left-known)
-
-      right-is : take (d .right .count) r ≡ q .right
-      right-is = short (q .right) (drafted .right-laid) (fits .right-good) (fits .right-known)
-
-      left-count : d .left .count ≡ length (q .left)
-      left-count = counted (drafted .left-laid) (fits .left-good)
-
-      right-count : d .right .count ≡ length (q .right)
-      right-count = counted (drafted .right-laid) (fits .right-good)
-
-      rows-count : s .counts .rows ≡ length (f .body .rows)
-      rows-count = ap (λ (c : Counts). c .rows) (stored .counts)
-
-      left-held : s .counts .left ≡ length (leftPool (f .body .rows))
-      left-held = ap (λ (c : Counts). c .left) (stored .counts)
-
-      right-held : s .counts .right ≡ length (rightPool (f .body .rows))
-      right-held = ap (λ (c : Counts). c .right) (stored .counts)
-
-      principal-same : (o : Option ℕ) → unknownFormula (f .body) (listed o) ≡ false → principalNumber (principalAs (some o)) ≡ orAbsent o
-      principal-same none e = refl
-      principal-same (some i) e = small-mod i (omega (arith, known-earlier (f .body) (i ∷ []) e i (List·Memᴰ·head refl), good-held (good .body) .few-nodes))
-
-      narrow : Narrow (q .premises)
-      narrow x m = omega (arith, leb-false (length (f .body .rows)) x (any-false _ (q .premises) (fits .premises-earlier) x m), fits .rows-room)
-
-      numbers-same : rowNumbers (recordOf d (s .counts)) ≡ rowRecord (f .body .rows) q
-      numbers-same =
-          let held = good-held (good .body) in
-          let a1 : d .rule ≡ codeOf (q .rule) = drafted .rule in
-          let a2 : principalNumber (d .principal) ≡ orAbsent (q .principal) =
-          ap principalNumber (drafted .principal) ∙ principal-same (q .principal) (fits .principal-known) in
-          let a3 : d .first ≡ getD (q .premises) 0 absent = drafted .first-premise narrow in
-          let a4 : d .second ≡ getD (q .premises) 1 absent = drafted .second-premise narrow in
-          let a5 : s .counts .left % 65536 ≡ length (leftPool (f .body .rows)) =
-          small-mod (s .counts .left) (omega (arith, left-held, held .few-left)) ∙ left-held in
-          let a6 : d .left .count % 65536 ≡ length (q .left) = small-mod (d .left .count) (omega (arith, left-count, fits .left-room)) ∙ left-count in
-          let a7 : s .counts .right % 65536 ≡ length (rightPool (f .body .rows)) =
-          small-mod (s .counts .right) (omega (arith, right-held, held .few-right)) ∙ right-held in
-          let a8 : d .right .count % 65536 ≡ length (q .right) = small-mod (d .right .count) (omega (arith, right-count, fits .right-room)) ∙ right-count in
-          cc (a1, a2, a3, a4, a5, a6, a7, a8)
-
-      row-put : Exactly (rowRecords (f .body .rows ++ q ∷ [])) rows′
-      row-put =
-          let put : rows′ ≡ written rows (rowWidth * length (f .body .rows)) (rowRecord (f .body .rows) q) =
-          w .row-written ∙ ap₂ (λ (m : ℕ) (numbers : List ℕ). written rows (rowWidth * m) numbers) rows-count numbers-same in
-          put
-          ∙ ap (λ (table : List ℕ). written table (rowWidth * length (f .body .rows)) (rowRecord (f .body .rows) q)) (stored .rows)
-          ∙ put-row-encoded (length rows) (f .body .rows) q (omega (arith, fits .rows-room, stored .full .rows))
-          ∙ ap (λ (m : ℕ). padded m (rowRecords (f .body .rows ++ q ∷ []))) (sym (ap length put ∙ written-length rows _ _))
-
-      left-put : Exactly (leftPool (f .body .rows ++ q ∷ [])) left′
-      left-put =
-          subst (Exactly (leftPool (f .body .rows ++ q ∷ []))) (sym (w .left-written ∙ ap₂ (written left) left-held left-is)) (
-          put-exactly (λ (z : Row). z .left) left (f .body .rows) q (length (leftPool (f .body .rows)))
-          (stored .left) refl (omega (arith, fits .left-room, stored .full .left)))
-
-      right-put : Exactly (rightPool (f .body .rows ++ q ∷ [])) right′
-      right-put =
-          subst (Exactly (rightPool (f .body .rows ++ q ∷ []))) (sym (w .right-written ∙ ap₂ (written right) right-held right-is)) (
-          put-exactly (λ (z : Row). z .right) right (f .body .rows) q (length (rightPool (f .body .rows)))
-          (stored .right) refl (omega (arith, fits .right-room, stored .full .right)))
-
-      room : fullFor (countsOf (f .body)) (length (q .left)) (length (q .right)) ≡ false
-      unfolding fullFor
-      room = passes 5 (bodyTests (f .body) q) tests
-
-      counts-same : countRow (s .counts) (d .left .count) (d .right .count) ≡ countsOf (addRow (f .body) q)
-      counts-same =
-          ap (λ (c : Counts). countRow c (d .left .count) (d .right .count)) (stored .counts)
-          ∙ ap₂ (countRow (countsOf (f .body))) left-count right-count
-          ∙ counts-row (f .body) q room
-
       pub row-stored : {counts : Counts} → counts ≡ countRow (s .counts) (d .left .count) (d .right .count)
           → Stored text (withRow f q) (passedBy s counts (rank in-rows) number .state) (withRows t formulas notes rows′ left′ right′)
       row-stored e =
@@ -187,16 +88,11 @@ module _ (text line : Bytes) (start number : ℕ) (s : State) {n : ℕ} {q : Row
                   names = stored .full .names;
                   formulas = stored .full .formulas;
                   notes = stored .full .notes;
-                  rows = omega (
-                    arith,
-                    stored .full .rows,
-                    ap length (w .row-written),
-                    written-length rows (rowWidth * s .counts .rows) (rowNumbers (recordOf d (s .counts))),
-                  );
-                  left = omega (arith, stored .full .left, ap length (w .left-written), written-length left (s .counts .left) (take (d .left .count) l));
-                  right = omega (arith, stored .full .right, ap length (w .right-written), written-length right (s .counts .right) (take (d .right .count) r));
+                  rows = omega (arith, stored .full .rows, rows-length w);
+                  left = omega (arith, stored .full .left, left-length w);
+                  right = omega (arith, stored .full .right, right-length w);
                 };
-            counts = e ∙ counts-same;
+            counts = e ∙ counts-same (good .body) (stored .counts) tests drafted;
             stage = refl;
             model = stored .model;
             model-line = stored .model-line;
@@ -205,23 +101,23 @@ module _ (text line : Bytes) (start number : ℕ) (s : State) {n : ℕ} {q : Row
             names = stored .names;
             formulas = stored .formulas;
             known = record { atoms = stored .known .atoms; index = stored .known .index };
-            rows = row-put;
-            left = left-put;
-            right = right-put;
+            rows = row-put (good .body) (stored .counts) tests drafted w (stored .full .rows) (stored .rows);
+            left = left-put (good .body) (stored .counts) tests drafted w (stored .full .left) (stored .left);
+            right = right-put (good .body) (stored .counts) tests drafted w (stored .full .right) (stored .right);
           }
 
 -- what is written of a row changes no length
 pub row-lengths : {d : Draft} {c : Counts} {l r rows left right rows′ left′ right′ : List ℕ} (t : Memory) (formulas notes : List ℕ)
     → RowStored d c l r rows left right rows′ left′ right′
     → SameLengths (withRows t formulas notes rows left right) (withRows t formulas notes rows′ left′ right′)
-row-lengths {d} {c} {l} {r} {rows} {left} {right} t formulas notes w =
+row-lengths t formulas notes w =
     record {
       names = refl;
       formulas = refl;
       notes = refl;
-      rows = ap length (w .row-written) ∙ written-length rows _ _;
-      left = ap length (w .left-written) ∙ written-length left _ _;
-      right = ap length (w .right-written) ∙ written-length right _ _;
+      rows = rows-length w;
+      left = left-length w;
+      right = right-length w;
     }
 
 -- ---- what settling a row comes to

@@ -6,12 +6,12 @@ use native.Mathlib.Omega.{arith}
 use mathlib.Core.Path.{_≡_, refl, sym, ap, ap₂, subst, _∙_}
 use mathlib.Core.List.{List, [], _∷_, _++_, List·Memᴰ·not-nil}
 use lib.ListN.{length, getD, drop, replicate, length-take, length-drop}
-use Rattle.format.specs.Text.{Bytes, partsAt, lineFeed}
+use Rattle.format.specs.Text.{Bytes, Lines, partsAt, lineFeed, linesOf}
 use Rattle.format.specs.File.{File, noFile}
 use Rattle.format.specs.Tables
 use Rattle.format.specs.Tables.{padded, mostBytes}
-use Rattle.format.specs.Judged.{Place, Outcome, next, refused, step, below, top, beginning, turnedDown, runFrom, answerFrom}
-use Rattle.format.proofs.Stepping.{run-next, answer-next, answer-refused, step-refused}
+use Rattle.format.specs.Judged.{Place, Outcome, next, refused, step, after, below, run, beginning, runFrom, answerFrom}
+use Rattle.format.proofs.Stepping.{lines-cons, run-line, run-next, answer-next, step-refused}
 use Rattle.format.proofs.Beginnings.{step-good, good-start}
 use Rattle.parts.specs.Parts.{nextAt, between}
 use Rattle.parts.proofs.PartLaws.{next-bounds, next-part}
@@ -55,6 +55,8 @@ running-start text t fresh =
           };
       answer = refl;
       outcome = refl;
+      counted = omega arith;
+      rest = refl;
     }
   where
     all-zero : (n i : ℕ) → _≡_ {A = ℕ} (getD (replicate n 0) i 0) 0
@@ -81,6 +83,12 @@ module _ (text : Bytes) (line at : ℕ) (s : State) (t : Memory) (within : at �
         subst (λ (k : ℕ). partsAt lineFeed (drop at text) ≡ between text at k ∷ partsAt lineFeed (drop (k + 1) text)) (sym found)
         (next-part lineFeed text at within (omega (arith, found)))
 
+    lines : linesOf (drop at text) ≡ record {
+      complete = between text at end ∷ linesOf (drop (end + 1) text) .complete;
+      rest = linesOf (drop (end + 1) text) .rest;
+    }
+    lines = lines-cons (drop at text) (between text at end) (drop (end + 1) text) cut
+
     outcome : Steps text (step (r .file) (place line at) (between text at end)) stepped u
     outcome = steps .inside from (omega arith) .steps (r .file) (place line at) (r .done) (r .good) (r .stored) few refl refl
 
@@ -105,19 +113,22 @@ module _ (text : Bytes) (line at : ℕ) (s : State) (t : Memory) (within : at �
               outcome =
                   r .outcome ∙ run-next (place line at) (r .file) (drop at text) (between text at end) (drop (end + 1) text) f cut q
                   ∙ ap (λ (p : Place). runFrom p (drop (end + 1) text) f) after-line;
+              counted = omega (arith, r .counted, ap (λ (ls : Lines). length (ls .complete)) lines);
+              rest = r .rest ∙ ap (λ (ls : Lines). ls .rest) lines;
             }
         cases (refused n l) q k = absurd (omega (arith, e, k .0, step-refused (r .file) (place line at) (between text at end) n l q))
 
     -- it was refused
-    running-refused : (stepped .number ≡ 0 → ⊥) → answerFrom top text noFile ≡ turnedDown (stepped .number) (stepped .line)
+    running-refused : (stepped .number ≡ 0 → ⊥) → beginning text ≡ refused (stepped .number) (stepped .line)
     running-refused ne = cases (step (r .file) (place line at) (between text at end)) refl outcome
       where
         cases : (o : Outcome File) → step (r .file) (place line at) (between text at end) ≡ o → Steps text o stepped u
-            → answerFrom top text noFile ≡ turnedDown (stepped .number) (stepped .line)
+            → beginning text ≡ refused (stepped .number) (stepped .line)
         cases (next f) q k = absurd (ne (k .0))
         cases (refused n l) q k =
-            r .answer ∙ answer-refused (place line at) (r .file) (drop at text) (between text at end) (drop (end + 1) text) n l cut q
-            ∙ ap₂ turnedDown (sym (k .0)) (sym (k .1))
+            r .outcome ∙ run-line (place line at) (r .file) (drop at text) (between text at end) (drop (end + 1) text) cut
+            ∙ ap (λ (o : Outcome File). after o (run step (below (place line at) (between text at end)) (linesOf (drop (end + 1) text) .complete))) q
+            ∙ ap₂ refused (sym (k .0)) (sym (k .1))
 
 -- The loop's invariant, at the line from `at` to `end`: the tables were t when they were lent, and are u now. Only what the lines
 -- come to needs that t was fresh.
@@ -167,7 +178,7 @@ module _ {text : Bytes} {t : Memory} {line at end : ℕ} {s : State} {u : Memory
                 record {
                   passed = λ z. r .running fresh;
                   all = λ z. omega (arith, r .found);
-                  refused = λ ne. absurd (ne refl);
+                  refuses = λ ne. absurd (ne refl);
                   stopped = λ ne. absurd (ne refl);
                 };
             within = r .within;
@@ -220,7 +231,7 @@ module _ {text : Bytes} {t : Memory} {line at end : ℕ} {s : State} {u : Memory
                   record {
                     passed = λ z. absurd (ne z);
                     all = λ z. absurd (ne z);
-                    refused = running-refused text line at s u (r .within) (r .running fresh) end short (r .found) inside stepped v steps;
+                    refuses = running-refused text line at s u (r .within) (r .running fresh) end short (r .found) inside stepped v steps;
                     stopped = λ more. (line, kept (r .running fresh));
                   };
               within = r .within;

@@ -1,13 +1,13 @@
 -- The invariant of the run over a text's lines, which holds when the line at a place is about to be read, and what the run
 -- over the complete lines comes to.
-use Prim.Native.Nat.{ℕ, _≤_, _<_}
+use Prim.Native.Nat.{ℕ, _+_, _≤_, _<_}
 use mathlib.Core.Path.{_≡_}
 use mathlib.Core.List.{List}
 use lib.ListN.{length, drop, replicate}
-use Rattle.format.specs.Text.{Bytes, lineFeed}
+use Rattle.format.specs.Text.{Bytes, lineFeed, linesOf}
 use Rattle.format.specs.File.{File, noFile}
 use Rattle.format.specs.Tables.{mostBytes}
-use Rattle.format.specs.Judged.{Place, top, beginning, turnedDown, runFrom, answerFrom}
+use Rattle.format.specs.Judged.{Place, refused, top, beginning, runFrom, answerFrom}
 use Rattle.format.specs.Good.{Good}
 use Rattle.parts.specs.Parts.{nextAt}
 use Rattle.state.specs.State.{Memory, Full, SameLengths, Stored, start}
@@ -18,7 +18,7 @@ use Rattle.run.specs.declared.Ran.{Ran}
 abbrev pub place : ℕ → ℕ → Place
 place line at = record { line = line; start = at }
 
--- the file of the lines before a place is stored, and what is left of the text decides the answer
+-- the file of the lines before a place is stored and they are counted, and what is left of the text decides the answer
 pub record Running (text : Bytes) (line at : ℕ) (s : State) (t : Memory) : Type 0 where
   pub done : List Bytes
   pub file : File
@@ -26,13 +26,15 @@ pub record Running (text : Bytes) (line at : ℕ) (s : State) (t : Memory) : Typ
   pub stored : Stored text file s t
   pub answer : answerFrom top text noFile ≡ answerFrom (place line at) (drop at text) file
   pub outcome : beginning text ≡ runFrom (place line at) (drop at text) file
+  pub counted : length (linesOf text .complete) + 1 ≡ line + length (linesOf (drop at text) .complete)
+  pub rest : linesOf text .rest ≡ linesOf (drop at text) .rest
 
 -- All complete lines have passed, and the run stands after the last one; or the text is refused with a line's number, and the run
 -- stands before the line at which that was seen.
 pub record Runs (text : Bytes) (r : Ran) (t : Memory) : Type 0 where
   pub passed : r .number ≡ 0 → Running text (r .line) (r .at) (r .state) t
   pub all : r .number ≡ 0 → length text ≤ nextAt lineFeed text (r .at)
-  pub refused : (r .number ≡ 0 → ⊥) → answerFrom top text noFile ≡ turnedDown (r .number) (r .line)
+  pub refuses : (r .number ≡ 0 → ⊥) → beginning text ≡ refused (r .number) (r .line)
   pub stopped : (r .number ≡ 0 → ⊥) → (line : ℕ) × Running text line (r .at) (r .state) t
 
 -- tables of full length that hold nothing, with nothing known of any formula

@@ -32,7 +32,7 @@ first-record width n front rest e =
     ∙ ap₂ (λ (head tail : List ℕ). head ∷ firstRecords width n tail) (take-at front rest width e) (drop-at front rest width e)
 
 module _ {A : Type 0} (f : A → List ℕ) where
-  joinAll-append : (xs ys : List A) → joinAll f (xs ++ ys) ≡ joinAll f xs ++ joinAll f ys
+  pub joinAll-append : (xs ys : List A) → joinAll f (xs ++ ys) ≡ joinAll f xs ++ joinAll f ys
   joinAll-append [] ys = refl
   joinAll-append (x ∷ xs) ys = ap (λ (r : List ℕ). f x ++ r) (joinAll-append xs ys) ∙ sym (append-assoc (f x) (joinAll f xs) (joinAll f ys))
 
@@ -123,7 +123,7 @@ name-held text names table name stands held =
 
 -- rows
 
-records-append : (earlier xs ys : List Row) → recordsAfter earlier (xs ++ ys) ≡ recordsAfter earlier xs ++ recordsAfter (earlier ++ xs) ys
+pub records-append : (earlier xs ys : List Row) → recordsAfter earlier (xs ++ ys) ≡ recordsAfter earlier xs ++ recordsAfter (earlier ++ xs) ys
 records-append earlier [] ys = ap (λ (l : List Row). recordsAfter l ys) (sym (append-nil earlier))
 records-append earlier (x ∷ xs) ys =
     ap (λ (rest : List ℕ). rowRecord earlier x ++ rest) (records-append (earlier ++ x ∷ []) xs ys)

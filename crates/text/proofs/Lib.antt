@@ -1,5 +1,5 @@
 pub mod NumberLaws
-mod ListLaws
+pub mod ListLaws
 mod ItemLaws
 mod Listing
 mod NameLaws

@@ -1,7 +1,10 @@
 //! `comparison SEED COUNT` judges random texts with the proved library, through its C
 //! entries, and with the second checker. Number, line, every entry of every table and
 //! every byte of the words must be the same; and so must they be where the lists of a text
-//! are written with other runs.
+//! are written with other runs. The same goes for beginnings that are opened, and for rows that
+//! are previewed and added.
+
+mod open;
 
 use second::fuzz::MOST_READ;
 use second::judge::{Derivation, Judgement, LEAST, Tables, judge};
@@ -69,7 +72,7 @@ fn main() -> ExitCode {
                 .and_then(|()| same_words(rewritten, lent, &words::answer(judgement, derivation, space)))
                 .map_err(|what| format!("{what} in another writing"))?;
         }
-        Ok(())
+        open::same_open_files(&mut random, text, lent)
     })
 }
 

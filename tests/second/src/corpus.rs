@@ -3,12 +3,17 @@
 //! No answer here comes from a checker. A number stands beside its text, or follows
 //! from how the text is built; a line is stated, or counted while building.
 
+mod adding;
+mod by_hand;
 mod examples;
 mod families;
+mod handed_in;
 mod limits;
 mod models;
 mod numbers;
+mod opening;
 mod pairs;
+mod row_texts;
 mod rows;
 mod rule_words;
 mod run_limits;
@@ -56,6 +61,8 @@ pub fn cases() -> Vec<Case> {
         words::cases(),
         runs::cases(),
         run_limits::cases(),
+        opening::cases(),
+        row_texts::texts(),
     ];
     let mut cases = groups.concat();
     cases.extend(run_limits::rewritten(&cases));
@@ -63,22 +70,34 @@ pub fn cases() -> Vec<Case> {
     cases
 }
 
+/// The cases whose texts stand in one file, and those that are files of their own.
+fn listed_and_in_files() -> (Vec<Case>, Vec<Case>) {
+    cases().into_iter().partition(|case| case.group() == rule_words::GROUP)
+}
+
 /// The files of the corpus folder, by path inside it.
 pub fn files() -> BTreeMap<String, Vec<u8>> {
-    let (listed, cases): (Vec<Case>, Vec<Case>) =
-        cases().into_iter().partition(|case| case.group() == rule_words::GROUP);
+    let (listed, cases) = listed_and_in_files();
     let in_full = |case: &Case| format!("{}\t{}\t{}\n", escaped(&case.text), case.number, case.line);
     let listed: String = listed.iter().map(in_full).collect();
     let answer = |case: &Case| format!("{}\t{}\t{}\n", case.name, case.number, case.line);
     let answers: String = cases.iter().map(answer).collect();
     let pair = |case: &Case| case.plain.as_ref().map(|plain| format!("{}\t{plain}\n", case.name));
     let pairs: String = cases.iter().filter_map(pair).collect();
+    let (opening, adding) = (opening::answers(&cases), adding::listed(&cases));
     let of_case = |case: Case| {
         let words = case.words.map(|words| (format!("{}.words", case.name), words));
         [(format!("{}.txt", case.name), case.text)].into_iter().chain(words)
     };
     let texts = cases.into_iter().flat_map(of_case);
-    let lists = [("answers.tsv", answers), ("plain.tsv", pairs), ("rule_words.tsv", listed)];
+    let lists = [
+        ("answers.tsv", answers),
+        ("plain.tsv", pairs),
+        ("rule_words.tsv", listed),
+        ("opening.tsv", opening),
+        ("opened.tsv", opening::tables()),
+        ("adding.tsv", adding),
+    ];
     texts.chain(lists.map(|(name, list)| (name.into(), list.into_bytes()))).collect()
 }
 

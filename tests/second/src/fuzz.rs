@@ -3,10 +3,12 @@
 //! Every text is judged by set algebra and by search; what is accepted must be true
 //! in the brute-force semantics, row by row, and its model be one there, or the left have
 //! none where there is no model; its tables must give the text back, and its words the
-//! rows; an answer that is known beforehand must be given; and another writing of the same
-//! lists must change nothing.
+//! rows; an answer that is known beforehand must be given; another writing of the same lists
+//! must change nothing; and rows that are entered one by one must be answered as in their
+//! places.
 
 use crate::draft::{atom_list, list};
+use crate::entering;
 use crate::formula::{Atoms, Formulas, Node};
 use crate::judge::{Deciding, Derivation, Judgement, Refusal, judge, judge_closely};
 use crate::line::{self, Line};
@@ -52,6 +54,9 @@ struct RowCounts {
     wrong_step: usize,
     too_many_atoms: usize,
 }
+
+/// So many of the last rows are entered one by one.
+const MOST_ENTERED: usize = 4;
 
 /// Words of more bytes are not read back.
 pub const MOST_READ: u64 = 1 << 18;
@@ -120,6 +125,7 @@ impl Report {
             self.rewritten += 1;
             self.rewritten_accepted += usize::from(derivation.is_some());
         }
+        entering::check(text, lent, &judgement, MOST_ENTERED)?;
         match &derivation {
             Some(derivation) => {
                 if in_runs(&rebuilt(text, &judgement, derivation.model)) != in_runs(text) {

@@ -3,8 +3,11 @@
 //! derivations, and the corpus. It shares nothing with the proved crates, so that
 //! a misreading of the papers shows as a difference.
 
+pub mod adding;
+mod checker;
 pub mod corpus;
 pub mod draft;
+pub mod entering;
 pub mod formula;
 pub mod fuzz;
 pub mod generate;
@@ -15,6 +18,7 @@ pub mod line;
 pub mod list;
 pub mod mutate;
 pub mod notation;
+pub mod open;
 pub mod prove;
 pub mod random;
 pub mod reading;

@@ -22,6 +22,11 @@ impl List {
         }
     }
 
+    /// A list of numbers that each stand alone.
+    pub fn of(numbers: impl Iterator<Item = Number>) -> List {
+        List(numbers.map(|number| Item { first: number, last: number }).collect())
+    }
+
     /// How many numbers it means, repeats in full.
     pub fn count(&self) -> u64 {
         self.0.iter().map(Item::count).sum()

@@ -1,35 +1,12 @@
 -- `known::enter_formula` meets its contract. Assumes nothing.
-use Prim.Native.Nat.{ℕ}
-use mathlib.Core.List.{List}
-use mathlib.Core.Path.{refl, ap, subst, _∙_}
+use mathlib.Core.Path.{refl}
 use borrow.Author.Needs.{needs}
-use Rattle.tables.specs.Records.{recordNumbers}
-use Rattle.known.specs.Index.{entered, placeIn, NodeFound}
-use Rattle.known.specs.Entering.{full, held, new}
-use Rattle.known.proofs.Entries.{formula-entered}
+use Rattle.known.proofs.Entries.{entered-by}
 use Rattle.known.proofs.enter_formula.Statement.{statement}
 use Rattle.known.proofs.enter_formula.Tie as tie
 
-returns : tie.Need-returns
-returns c = formula-entered (full (c .if1 .taken) refl refl)
-
-find-node-requires : tie.Need-find-node-requires
-find-node-requires c κs = search needs
-
-enum-known-found : tie.Need-enum-known-found
-enum-known-found c = search needs
-
-same-length : tie.Need-same-length
-same-length c = search needs
-
-same-length-2 : tie.Need-same-length-2
-same-length-2 c = search needs
-
-returns-2 : tie.Need-returns-2
-returns-2 c =
-    let asked = c .before .before .before in
-    let found = subst (NodeFound _ _ _) (ap placeIn (c .before .found .given .1)) (asked .find-node .ensures) in
-    formula-entered (held _ (asked .before .before .before .if1 .left) found refl refl)
+note-formula-requires : tie.Need-note-formula-requires
+note-formula-requires c κs = search needs
 
 enum-told : tie.Need-enum-told
 enum-told c = search needs
@@ -37,14 +14,23 @@ enum-told c = search needs
 put-node-requires : tie.Need-put-node-requires
 put-node-requires c κs = search needs
 
-record-atoms-requires : tie.Need-record-atoms-requires
-record-atoms-requires c κs = search needs
+enum-told-2 : tie.Need-enum-told-2
+enum-told-2 c = search needs
 
-put-note-requires : tie.Need-put-note-requires
-put-note-requires c κs = search needs
+enum-told-3 : tie.Need-enum-told-3
+enum-told-3 c = search needs
 
-enter-node-requires : tie.Need-enter-node-requires
-enter-node-requires c κs = search needs
+same-length : tie.Need-same-length
+same-length c = search needs
+
+same-length-2 : tie.Need-same-length-2
+same-length-2 c = search needs
+
+returns : tie.Need-returns
+returns c =
+    let put = c .before .before in
+    let told = put .before .before in
+    entered-by (told .before .before .before .before .note-formula .ensures) _ (told .enum-told .given .1) (put .put-node .ensures)
 
 same-length-3 : tie.Need-same-length-3
 same-length-3 c = search needs
@@ -52,37 +38,33 @@ same-length-3 c = search needs
 same-length-4 : tie.Need-same-length-4
 same-length-4 c = search needs
 
+returns-2 : tie.Need-returns-2
+returns-2 c = entered-by (c .before .before .before .before .note-formula .ensures) _ (c .enum-told2 .given .1) refl
+
+same-length-5 : tie.Need-same-length-5
+same-length-5 c = search needs
+
+same-length-6 : tie.Need-same-length-6
+same-length-6 c = search needs
+
 returns-3 : tie.Need-returns-3
-returns-3 c =
-    let notes-put = c .before .before .before .before .before .before in
-    let node-put = notes-put .before .before .before .before .before .before in
-    let told = node-put .before .before in
-    let asked = told .before .before in
-    let args = asked .before .before .before .before .before .before .args in
-    let nowhere = subst (NodeFound _ _ _) (ap placeIn (told .enum-told .given .1)) (asked .find-node .ensures) in
-    formula-entered (new (asked .before .before .before .if1 .left) nowhere (
-    record {
-      atoms = notes-put .before .record-atoms .result;
-      atoms-are = notes-put .before .record-atoms .ensures;
-      put = node-put .put-node .ensures;
-      noted = c .before .before .enter-node .ensures ∙ ap (λ (l : List ℕ). entered l (args .count) (recordNumbers (args .key))) (notes-put .put-note .ensures);
-    }))
+returns-3 c = entered-by (c .before .before .before .before .note-formula .ensures) _ (c .enum-told3 .given .1) refl
 
 pub enter-formula-spec : {M : Type 1} → statement M
 enter-formula-spec =
     tie.close
     (tie.spec
-    returns
-    find-node-requires
-    enum-known-found
-    same-length
-    same-length-2
-    returns-2
+    note-formula-requires
     enum-told
     put-node-requires
-    record-atoms-requires
-    put-note-requires
-    enter-node-requires
+    enum-told-2
+    enum-told-3
+    same-length
+    same-length-2
+    returns
     same-length-3
     same-length-4
+    returns-2
+    same-length-5
+    same-length-6
     returns-3)

@@ -6,13 +6,18 @@
 //! `--words [SPACE]` prints the rows of an accepted text in words instead, if they fit
 //! into so many bytes, or else 1,048,576; and number, tab, line if they don't, or if the
 //! text is refused. `--listed` judges each line of standard input, a text as the corpus lists
-//! it, and prints a line for each.
+//! it, and prints a line for each. `--opening` opens the text of the corpus that each line names,
+//! in the current folder, and prints number, line and the five counts. `--adding` answers each
+//! line as a case of adding a row.
 
+use second::adding::Adding;
 use second::corpus::unescaped;
 use second::judge::{Deciding, LEAST, judge, judge_closely};
+use second::open::open;
 use second::words;
 use std::cell::Cell;
 use std::io::{BufRead, Read, Write};
+use std::path::Path;
 
 /// What the command lends for words.
 const SPACE: usize = 1 << 20;
@@ -25,6 +30,21 @@ fn main() -> std::io::Result<()> {
         for line in std::io::stdin().lock().lines() {
             let judgement = judge(&unescaped(&line?).expect("a text as the corpus lists it"), &LEAST);
             writeln!(out, "{}\t{}", judgement.number, judgement.line)?;
+        }
+        return Ok(());
+    }
+    if asked("--opening") {
+        for name in std::io::stdin().lock().lines() {
+            let opening = open(&std::fs::read(format!("{}.txt", name?))?, &LEAST);
+            let counts = opening.counts.listed().map(|count| count.to_string()).join("\t");
+            writeln!(out, "{}\t{}\t{counts}", opening.number, opening.line)?;
+        }
+        return Ok(());
+    }
+    if asked("--adding") {
+        let mut adding = Adding::new(Path::new("."));
+        for case in std::io::stdin().lock().lines() {
+            writeln!(out, "{}", adding.answer(&case?).expect("a case as the corpus lists it"))?;
         }
         return Ok(());
     }

@@ -1,0 +1,4 @@
+pub mod Zeros
+pub mod Stored
+pub mod Entering
+pub mod Rows
