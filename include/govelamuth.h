@@ -96,7 +96,7 @@ struct elk_opened {
  * be empty: number 13 is never given. Bytes after the last line feed earn number 3, on the line after the complete ones.
  * If every line passes, the answer is number 0 with the count of lines, and tables and counts hold the beginning. M and C lines are
  * judged as always and leave nothing in them: rows may be added all the same. After a refusal the tables are zeros alone, and so are
- * the counts. What the tables held before does not matter. It takes about STACK_KIB KiB of stack. */
+ * the counts. What the tables held before does not matter. It takes about 136 KiB of stack. */
 struct elk_opened elk_open(const uint8_t *text, size_t text_length,
                            uint16_t *names, size_t names_length,
                            uint16_t *formulas, size_t formulas_length,
@@ -116,7 +116,7 @@ struct elk_opened elk_open(const uint8_t *text, size_t text_length,
  * - number 0 with line 1: the row stands behind the others in rows, left and right, as elk_open would put it there, and the counts that
  *   come back have it.
  * After any refusal, numbers 1, 2 and 4 too, the tables are as they were, and the counts that come back are those handed in. It takes
- * about STACK_KIB KiB of stack. */
+ * about 134 KiB of stack. */
 struct elk_opened elk_add(const uint8_t *text, size_t text_length,
                           const uint16_t *formulas, size_t formulas_length,
                           uint16_t *rows, size_t rows_length,
@@ -124,7 +124,7 @@ struct elk_opened elk_add(const uint8_t *text, size_t text_length,
                           uint16_t *right, size_t right_length,
                           struct elk_counts counts);
 
-/* The answer that elk_add would give on a copy of the tables. Nothing is written. It takes about STACK_KIB KiB of stack. */
+/* The answer that elk_add would give on a copy of the tables. Nothing is written. It takes about 134 KiB of stack. */
 struct elk_answer elk_preview(const uint8_t *text, size_t text_length,
                               const uint16_t *formulas, size_t formulas_length,
                               const uint16_t *rows, size_t rows_length,

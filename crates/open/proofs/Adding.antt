@@ -89,6 +89,19 @@ four-exactly t c text long = (
   λ h. ap rulingOf (tried-none t c text long h),
 )
 
+-- in an open file: 2 and line 0 exactly if the text is too long
+pub two-exactly : (t : Tables) (c : Counts) (b : Body) (text : Bytes) → tooShort (lentOf t) ≡ false → IsOpen t c b
+    → (added t c text .ruling ≡ turnedDown 2 0) ↔ (ltb mostBytes (length text) ≡ true)
+unfolding withText
+two-exactly t c b text long o = (
+  λ e. to (ltb mostBytes (length text)) (sym (tried-open t c b text long o) ∙ ruled (tried t c text) 2 0 e),
+  λ h. ap rulingOf (tried-open t c b text long o ∙ ap (λ (i : Bool). cond i (refused 2 0) (withLine (saidIn text) b)) h),
+)
+  where
+    to : (i : Bool) → cond i (refused 2 0) (withLine (saidIn text) b) ≡ refused 2 0 → i ≡ true
+    to true k = refl
+    to false k = let one : _≡_ {A = ℕ} 0 1 = line-refused (saidIn text) b 2 0 k in absurd (omega arith)
+
 -- a refusal leaves counts and tables as they were
 pub refused-unchanged : (t : Tables) (c : Counts) (text : Bytes) (n l : ℕ) → added t c text .ruling ≡ turnedDown n l
     → (added t c text .counts ≡ c) × (added t c text .tables ≡ t)
