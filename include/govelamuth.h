@@ -8,7 +8,7 @@
  * equilibrium model.
  *
  * elk_open, elk_add and elk_preview judge a text that is still being written. Their number 0 says that each line so far passes, and
- * nothing of a claim.
+ * nothing of a claim. They are in libgovelamuth_open.a, the others in libgovelamuth.a; neither needs the other.
  *
  * They need no initialisation, keep no pointer, touch nothing but what is lent, use no heap and no global state, and so are
  * reentrant. A pointer that comes with length 0 is never followed, but must not be null: pass the address of anything.
