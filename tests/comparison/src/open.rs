@@ -91,13 +91,13 @@ pub fn same_open_files(random: &mut Random, text: &[u8], lent: &Tables<usize>) -
     same_opening(&text[..random.below(text.len() + 1)], lent)?;
     entered(text, lent, &opening)?;
     for _ in 0..TRIALS {
-        if let Some(trial) = trial(random, text, lent, &opening) {
-            same_trial(&trial)?;
+        if let Some(Trial { file, text, .. }) = trial(random, text, lent, &opening) {
+            same_trial(&file, &text)?;
         }
     }
     // The whole text in the place of a row, and a pool as it is lent, which may be too short.
     let nothing = OpenFile::of(open(b"", &LEAST));
-    same_trial(&Trial { file: OpenFile { left: vec![0; lent.left], ..nothing }, text: text.to_vec() })
+    same_trial(&OpenFile { left: vec![0; lent.left], ..nothing }, text)
 }
 
 /// Compares `elk_open` in tables where every entry is wrong before the call.
@@ -198,8 +198,7 @@ fn tables(file: &OpenFile) -> Tables<Vec<u16>> {
 }
 
 /// Compares what is answered for a row, previewed and added, and all that is left then.
-fn same_trial(trial: &Trial) -> Result<(), String> {
-    let Trial { file, text } = trial;
+fn same_trial(file: &OpenFile, text: &[u8]) -> Result<(), String> {
     let mut after = file.clone();
     let (number, line) = after.add(text);
     let mut memory = Memory::of(file);

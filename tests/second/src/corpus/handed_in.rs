@@ -23,6 +23,7 @@ pub fn cases() -> Vec<Adding> {
     cases.extend(counts());
     cases.extend(lengths());
     cases.extend([Pool::Left, Pool::Right].into_iter().flat_map(full_pool));
+    cases.extend(full_and_longer());
     cases.extend(wide_right());
     cases
 }
@@ -195,6 +196,15 @@ fn full_pool(pool: Pool) -> Vec<Adding> {
         refused(&name("16383_and_2"), &beginning, &one_fewer, &line(two), 5, 1),
         refused(&name("16384_and_1"), &beginning, "-", &line("N 257 same 0 - 0 0"), 5, 1),
         refused(&name("16384_and_4"), &beginning, "-", &line("N 256 same 0 - 0 0"), 4, 1),
+        // The last row would be ~# => #, or # => ~#, about #.
+        refused(
+            &name("16384_and_a_wrong_last"),
+            &beginning,
+            &format!("{here}:16383:1"),
+            &line("N 257 same 0 - 0 0"),
+            4,
+            0,
+        ),
         refused(&name("16385_handed_in"), &beginning, &one_more, &line("N 258 same 0 - 0 0"), 4, 0),
         match pool {
             Pool::Left => added(
@@ -213,6 +223,29 @@ fn full_pool(pool: Pool) -> Vec<Adding> {
             ),
         },
     ]
+}
+
+/// Each table used to its least length and lent one number longer: a zero there raises no limit,
+/// and anything else stands after the counts.
+fn full_and_longer() -> Vec<Adding> {
+    let full = [
+        ("limits/1024_formulas", "N 1 same 0 - 0 0"),
+        ("limits/2048_rows", "N 2048 xini - - - -"),
+        ("limits/16384_entries_left", "N 257 same 0 - 0 0"),
+        ("limits/16384_entries_right", "N 257 same 0 - 0 0"),
+    ];
+    let mut cases = vec![];
+    for ((table, least), (beginning, row)) in TABLES.into_iter().zip(full) {
+        let (name, row) = (format!("full_and_longer/{table}"), line(row));
+        let longer = format!("length:{table}:{}", least + 1);
+        cases.push(match table {
+            "formulas" => added(&name, beginning, &longer, &row, ["1,0,65535,65535,1,1,1,1", "0", "0"]),
+            _ => refused(&name, beginning, &longer, &row, 5, 1),
+        });
+        let changes = format!("{longer} {table}:{least}:1");
+        cases.push(refused(&format!("{name}_with_a_number_there"), beginning, &changes, &row, 4, 0));
+    }
+    cases
 }
 
 /// The right side of a row widened to 64 formulas, and to 65.
