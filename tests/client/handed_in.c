@@ -1,8 +1,8 @@
 /* handed_in TEXT...: opens each text, which should be small, and hands in what is no open file: each number of the four tables changed in
  * turn to many others, also behind what the counts say; two at once; counts off by one, at their limits, past them and near wrapping;
  * tables too short and longer ones; and for an open file, other texts than a row, long ones, and several faults at once. Counts and
- * tables are good exactly if the text that is written from them opens to the same. The last line is `N passed, 0 failed` if all is
- * well. */
+ * tables that can be written in 65,536 bytes are good exactly if that text opens to the same; one file takes rows beyond that. The last
+ * line is `N passed, 0 failed` if all is well. */
 #include <stdarg.h>
 
 #include "open_file.h"
@@ -21,6 +21,10 @@ static char text[MOST_WRITTEN];
 static size_t text_length;
 
 static void put(const char *format, ...) {
+    if (text_length >= sizeof text) {
+        fputs("handed_in: no room for the text\n", stderr);
+        exit(1);
+    }
     va_list arguments;
     va_start(arguments, format);
     text_length += (size_t)vsnprintf(text + text_length, sizeof text - text_length, format, arguments);
@@ -267,6 +271,36 @@ static void try_opening(const char *name, struct bytes beginning) {
     end_case(name);
 }
 
+/* ---- more lines than a text can hold */
+
+/* # and its negations, as many formulas as there can be, and rows about the last of them, up to the limit and one beyond. */
+static void try_more_than_a_text(void) {
+    const char *name = "more than a text";
+    uint16_t last = 1023;
+    text_length = 0;
+    put("F\t0\tbot\t-\t-\n");
+    for (unsigned i = 1; i <= last; i++)
+        put("F\t%u\tnot\t%u\t-\n", i, i - 1);
+    struct elk_opened begun = opened((struct bytes){(uint8_t *)text, text_length}, &good.tables);
+    expect(same_answer(begun.answer, (struct elk_answer){ELK_ACCEPTED, last + 1u}), "its formulas do not open");
+    good.counts = begun.counts;
+    copy_file(&file, &good);
+    for (size_t k = 0; k <= MOST_ROWS; k++) {
+        char row[64];
+        size_t length = (size_t)sprintf(row, "N\t%zu\tsame\t%u\t-\t%u\t%u\n", k, last, last, last);
+        try_row(&file, (struct bytes){(uint8_t *)row, length}, k < MOST_ROWS ? accepted : (struct elk_answer){ELK_FULL, 1}, &before);
+        if (k < MOST_ROWS) { /* what is to be stored */
+            const uint16_t record[] = {1, last, ABSENT, ABSENT, (uint16_t)k, 1, (uint16_t)k, 1};
+            memcpy(numbers(&good.tables, ROWS) + 8 * k, record, sizeof record);
+            numbers(&good.tables, LEFT)[k] = numbers(&good.tables, RIGHT)[k] = last;
+        }
+    }
+    expect(same_counts(file.counts, (struct elk_counts){0, last + 1u, MOST_ROWS, MOST_ROWS, MOST_ROWS}), "other counts");
+    expect(tables_equal(&file.tables, &good.tables), "other tables");
+    expect(can_be_written(&file) && text_length > MOST_BYTES, "it can be written in a text");
+    end_case(name);
+}
+
 int main(int count, char **names) {
     good.tables = lent_tables(longer, 0xa5);
     file.tables = lent_tables(longer, 0x5a);
@@ -287,6 +321,7 @@ int main(int count, char **names) {
         try_opening(names[i], beginning);
         free(beginning.at);
     }
+    try_more_than_a_text();
     give_back(&good.tables);
     give_back(&file.tables);
     give_back(&written.tables);

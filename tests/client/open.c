@@ -1,7 +1,7 @@
 /* open TEXT...: opens each text, with its M and C lines and without them, and enters its rows one by one, each previewed first. Tables and
  * counts must be those of the text so far at each step, and those of elk_judge at the end. A row that the whole text is refused for must
- * be refused alike, and so must tables that hold it all the same, or such a formula. The last line is `N passed, 0 failed` if all is
- * well. */
+ * be refused alike, and so must tables that hold it all the same, or such a formula; a fourth of the texts must be of that kind, as in the
+ * corpus. The last line is `N passed, 0 failed` if all is well. */
 #include "open_file.h"
 
 static struct open_file whole, file, so_far, before;
@@ -106,12 +106,16 @@ static int store_row(struct open_file *f, const char *line) {
     return fits;
 }
 
+static int stored_trials;
+
 /* The file with the line that it is refused for must be no open file, where tables can hold the line. */
 static void try_stored(const char *line, uint32_t number) {
     int numbered = number == ELK_NO_SUCH_ITEM || number == ELK_FORMULA_AGAIN || number == ELK_BAD_SIDE || number == ELK_WRONG_PREMISES
         || number == ELK_TOO_MANY_ATOMS || number == ELK_WRONG_STEP;
-    if (numbered && ((line[0] == 'F' && store_formula(&file, line)) || (line[0] == 'N' && store_row(&file, line))))
+    if (numbered && ((line[0] == 'F' && store_formula(&file, line)) || (line[0] == 'N' && store_row(&file, line)))) {
         try_row(&file, plain_row(file.counts.rows), (struct elk_answer){ELK_OUT_OF_ORDER, 0}, &before);
+        stored_trials++;
+    }
 }
 
 /* ---- one text */
@@ -216,6 +220,8 @@ int main(int count, char **names) {
         end_case(names[i]);
         free(text.at);
     }
+    expect(stored_trials >= (count - 1) / 4, "too few");
+    end_case("lines stored that are refused");
     give_back(&whole.tables);
     give_back(&file.tables);
     give_back(&so_far.tables);
