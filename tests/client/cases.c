@@ -6,8 +6,6 @@
  * numbers by commas; `-` is none. */
 #include "open_file.h"
 
-static const char *const kinds[TABLES] = {"names", "formulas", "rows", "left", "right"};
-
 static void stop(const char *why, const char *where) {
     fprintf(stderr, "cases: %s: %s\n", why, where);
     exit(1);
@@ -112,7 +110,7 @@ static void lend_again(struct tables *tables, int table, size_t length) {
     uint8_t *at = guarded(new, tables->byte);
     memset(at, 0, new);
     memcpy(at, tables->at[table], old < new ? old : new);
-    free(tables->at[table] - GUARD);
+    unmap(tables->at[table], old);
     tables->at[table] = at;
     tables->lengths[table] = length;
 }

@@ -205,15 +205,14 @@ static void try_texts(const char *name) {
             try_row(&file, plain_row(other_numbers[i]), out_of_order, &before);
     end_case(name);
 
-    uint8_t *most = needed(malloc(MOST_BYTES + 1)); /* exactly, so that reading past it is found out */
-    memset(most, '9', MOST_BYTES + 1);
+    static uint8_t most[MOST_BYTES + 1];
+    memset(most, '9', sizeof most);
     memcpy(most, "N\t", 2);
     try_row(&file, (struct bytes){most, MOST_BYTES}, bad_line, &before);
     try_row(&file, (struct bytes){most, MOST_BYTES + 1}, too_long, &before);
     most[MOST_BYTES - 1] = '\n';
     try_row(&file, (struct bytes){most, MOST_BYTES}, bad_line, &before);
     try_row(&file, (struct bytes){most, MOST_BYTES + 1}, too_long, &before);
-    free(most);
     end_case(name);
 }
 

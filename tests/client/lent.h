@@ -1,17 +1,17 @@
-/* What the clients have in common: texts read from files, and lent tables between guards. */
+/* What the clients have in common: texts read from files, and texts and tables lent where nothing can be read past their ends. */
 #ifndef LENT_H
 #define LENT_H
 
 #include <stdio.h>
 #include <stdlib.h>
 #include <string.h>
+#include <sys/mman.h>
 
 #include "govelamuth.h"
 
 enum { NAMES, FORMULAS, ROWS, LEFT, RIGHT, TABLES };
 
-enum { GUARD = 64 };
-
+static const char *const kinds[TABLES] = {"names", "formulas", "rows", "left", "right"};
 static const size_t least[TABLES] = {128, 3072, 16384, 16384, 16384};
 
 struct bytes {
@@ -41,7 +41,6 @@ static inline struct bytes read_whole(FILE *from, const char *name) {
         fprintf(stderr, "client: cannot read %s\n", name);
         exit(2);
     }
-    file.at = needed(realloc(file.at, file.length + 1)); /* so that reading past it is found out */
     file.at[file.length] = 0;
     return file;
 }
@@ -77,18 +76,51 @@ static inline struct bytes read_back(char *listed, size_t length) {
     return (struct bytes){(uint8_t *)listed, written};
 }
 
-/* Memory of so many bytes between guards, all of it one byte. */
+/* ---- lent memory: no sanitizer sees what the proved code reads, so it ends where a page begins that cannot be read or written */
+
+enum { GUARD = 64, PAGES = 1 << 16 }; /* bytes: before the memory; and a multiple of any page's */
+
+static inline size_t in_pages(size_t length) { return (length + GUARD + PAGES - 1) / PAGES * PAGES; }
+
+/* So many bytes, and a guard before them, all of them one byte. */
 static inline uint8_t *guarded(size_t length, uint8_t byte) {
-    uint8_t *memory = needed(malloc(length + 2 * GUARD));
-    memset(memory, byte, length + 2 * GUARD);
-    return memory + GUARD;
+    size_t size = in_pages(length);
+    uint8_t *memory = mmap(NULL, size + PAGES, PROT_NONE, MAP_PRIVATE | MAP_ANONYMOUS, -1, 0);
+    if (memory == MAP_FAILED || mprotect(memory, size, PROT_READ | PROT_WRITE) != 0)
+        needed(NULL);
+    memset(memory + size - length - GUARD, byte, GUARD + length);
+    return memory + size - length;
 }
 
-static inline int guards_stand(const uint8_t *memory, size_t length, uint8_t byte) {
-    for (size_t i = 0; i < GUARD; i++)
-        if (memory[i - GUARD] != byte || memory[length + i] != byte)
+static inline int guard_stands(const uint8_t *memory, uint8_t byte) {
+    for (int i = 1; i <= GUARD; i++)
+        if (memory[-i] != byte)
             return 0;
     return 1;
+}
+
+static inline void set_writable(uint8_t *memory, size_t length, int writable) {
+    size_t size = in_pages(length);
+    if (mprotect(memory + length - size, size, writable ? PROT_READ | PROT_WRITE : PROT_READ) != 0)
+        needed(NULL);
+}
+
+static inline void unmap(uint8_t *memory, size_t length) {
+    size_t size = in_pages(length);
+    munmap(memory + length - size, size + PAGES);
+}
+
+/* The text as it is lent, until the next one is. */
+static inline struct bytes lent_text(struct bytes text) {
+    enum { ROOM = 1 << 20 };
+    static uint8_t *room;
+    if (room == NULL)
+        room = guarded(ROOM, 0);
+    if (text.length > ROOM)
+        needed(NULL);
+    uint8_t *at = room + ROOM - text.length;
+    memmove(at, text.at, text.length);
+    return (struct bytes){at, text.length};
 }
 
 static inline int all_zero(const uint8_t *memory, size_t length) {
@@ -98,7 +130,7 @@ static inline int all_zero(const uint8_t *memory, size_t length) {
     return 1;
 }
 
-/* Each table between guards, of the same byte as it held when it was lent. */
+/* Each table with a guard of the same byte as it held when it was lent. */
 struct tables {
     size_t lengths[TABLES];
     uint8_t byte;
@@ -118,14 +150,14 @@ static inline struct tables lent_tables(const size_t lengths[TABLES], uint8_t by
 
 static inline void give_back(struct tables *tables) {
     for (int i = 0; i < TABLES; i++)
-        free(tables->at[i] - GUARD);
+        unmap(tables->at[i], size_of(tables, i));
 }
 
 static inline uint16_t *numbers(const struct tables *tables, int i) { return (uint16_t *)(void *)tables->at[i]; }
 
 static inline int tables_guarded(const struct tables *tables) {
     for (int i = 0; i < TABLES; i++)
-        if (!guards_stand(tables->at[i], size_of(tables, i), tables->byte))
+        if (!guard_stands(tables->at[i], tables->byte))
             return 0;
     return 1;
 }
@@ -145,8 +177,14 @@ static inline int tables_equal(const struct tables *a, const struct tables *b) {
     return 1;
 }
 
+static inline struct elk_answer checked(struct bytes text) {
+    text = lent_text(text);
+    return elk_check(text.at, text.length);
+}
+
 /* The text judged in the tables. */
 static inline struct elk_answer judged(struct bytes text, const struct tables *t) {
+    text = lent_text(text);
     return elk_judge(text.at, text.length, numbers(t, NAMES), t->lengths[NAMES], numbers(t, FORMULAS), t->lengths[FORMULAS],
                      numbers(t, ROWS), t->lengths[ROWS], numbers(t, LEFT), t->lengths[LEFT], numbers(t, RIGHT), t->lengths[RIGHT]);
 }

@@ -8,7 +8,7 @@ int main(void) {
     size_t space = 0;
     for (ssize_t read; (read = getline(&line, &space, stdin)) > 0;) {
         struct bytes text = read_back(line, (size_t)read - 1);
-        struct elk_answer answer = elk_check(text.at, text.length);
+        struct elk_answer answer = checked(text);
         if (!same_answer(answer, judged(text, &tables))) {
             fputs("listed: the two entries differ\n", stderr);
             return 1;

@@ -39,20 +39,30 @@ static inline int same_counts(struct elk_counts a, struct elk_counts b) {
 }
 
 static inline struct elk_opened opened(struct bytes text, const struct tables *t) {
+    text = lent_text(text);
     return elk_open(text.at, text.length, numbers(t, NAMES), t->lengths[NAMES], numbers(t, FORMULAS), t->lengths[FORMULAS],
                     numbers(t, ROWS), t->lengths[ROWS], numbers(t, LEFT), t->lengths[LEFT], numbers(t, RIGHT), t->lengths[RIGHT]);
 }
 
 static inline struct elk_opened added(struct bytes row, const struct open_file *file) {
     const struct tables *t = &file->tables;
+    row = lent_text(row);
     return elk_add(row.at, row.length, numbers(t, FORMULAS), t->lengths[FORMULAS], numbers(t, ROWS), t->lengths[ROWS],
                    numbers(t, LEFT), t->lengths[LEFT], numbers(t, RIGHT), t->lengths[RIGHT], file->counts);
 }
 
+/* In tables that cannot be written meanwhile. */
 static inline struct elk_answer previewed(struct bytes row, const struct open_file *file) {
     const struct tables *t = &file->tables;
-    return elk_preview(row.at, row.length, numbers(t, FORMULAS), t->lengths[FORMULAS], numbers(t, ROWS), t->lengths[ROWS],
-                       numbers(t, LEFT), t->lengths[LEFT], numbers(t, RIGHT), t->lengths[RIGHT], file->counts);
+    row = lent_text(row);
+    for (int i = 0; i < TABLES; i++)
+        set_writable(t->at[i], size_of(t, i), 0);
+    struct elk_answer answer =
+        elk_preview(row.at, row.length, numbers(t, FORMULAS), t->lengths[FORMULAS], numbers(t, ROWS), t->lengths[ROWS],
+                    numbers(t, LEFT), t->lengths[LEFT], numbers(t, RIGHT), t->lengths[RIGHT], file->counts);
+    for (int i = 0; i < TABLES; i++)
+        set_writable(t->at[i], size_of(t, i), 1);
+    return answer;
 }
 
 /* Puts what one file holds into another with tables of the same lengths. */
@@ -62,13 +72,12 @@ static inline void copy_file(struct open_file *to, const struct open_file *from)
         memcpy(to->tables.at[i], from->tables.at[i], size_of(&from->tables, i));
 }
 
-/* Previews a row and then adds it. Both must answer as expected; the preview must change nothing, nor must a refusal. `before` has
- * tables of the same lengths, and holds the file as it was. */
+/* Previews a row and then adds it. Both must answer as expected, and a refusal must change nothing. `before` has tables of the same
+ * lengths, and holds the file as it was. */
 static inline void try_row(struct open_file *file, struct bytes row, struct elk_answer expected, struct open_file *before) {
     copy_file(before, file);
     struct elk_answer preview = previewed(row, file);
     expect(same_answer(preview, expected), "another answer to the preview");
-    expect(tables_equal(&file->tables, &before->tables), "the preview changed a table");
     struct elk_opened after = added(row, file);
     expect(same_answer(after.answer, expected), "another answer to the row");
     if (expected.number != ELK_ACCEPTED) {

@@ -1,9 +1,7 @@
 /* tables NAMES FORMULAS ROWS LEFT RIGHT: judges standard input in lent tables of these lengths that held other numbers before, and
  * prints the answer (number, tab, line) and a line for each table: its name, its length, and its numbers up to the last that is
- * not 0. What stands around each table must be untouched. */
+ * not 0. What stands before each table must be untouched. */
 #include "lent.h"
-
-static const char *const kinds[TABLES] = {"names", "formulas", "rows", "left", "right"};
 
 int main(int count, char **words) {
     size_t lengths[TABLES];
@@ -24,7 +22,7 @@ int main(int count, char **words) {
         printf("%s %zu:", kinds[i], lengths[i]);
         for (size_t k = 0; k < used; k++)
             printf(" %u", numbers(&tables, i)[k]);
-        puts(guards_stand(tables.at[i], size_of(&tables, i), tables.byte) ? "" : " written past an end");
+        puts(guard_stands(tables.at[i], tables.byte) ? "" : " written past an end");
     }
     give_back(&tables);
     free(text.at);

@@ -1,7 +1,7 @@
 /* words TEXT PRINTED: has the file TEXT told in lent texts of several lengths, and compares with the file PRINTED: the sentences, or
  * number, tab, line where there are none. Number, line and tables must be those of elk_judge; the lent text must hold the sentences
  * and then zeros; and after a refusal, also for want of room, text and tables must be zeros alone. Everything held other bytes before,
- * and what stands around it must be untouched. Prints how many lent texts were tried. */
+ * and what stands before it must be untouched. Prints how many lent texts were tried. */
 #include "lent.h"
 
 enum { LENT_BY_THE_COMMAND = 1 << 20 };
@@ -23,6 +23,7 @@ static void tell(struct bytes text, size_t space, uint8_t byte, struct elk_answe
         lent[i] = least[i] - (i == short_table);
     struct tables tables = lent_tables(lent, byte);
     uint8_t *words = guarded(space, byte);
+    text = lent_text(text);
     struct elk_answer answer =
         elk_words(text.at, text.length, numbers(&tables, NAMES), lent[NAMES], numbers(&tables, FORMULAS), lent[FORMULAS],
                   numbers(&tables, ROWS), lent[ROWS], numbers(&tables, LEFT), lent[LEFT], numbers(&tables, RIGHT), lent[RIGHT], words, space);
@@ -35,13 +36,13 @@ static void tell(struct bytes text, size_t space, uint8_t byte, struct elk_answe
         fail(space, "other words");
     if (!all_zero(words + used, space - used))
         fail(space, "no zeros after the words");
-    if (!guards_stand(words, space, byte))
+    if (!guard_stands(words, byte))
         fail(space, "the lent text was written past an end");
     if (sentences == NULL ? !tables_zero(&tables) : !tables_equal(&tables, judged_tables))
         fail(space, "another table");
     if (!tables_guarded(&tables))
         fail(space, "a table was written past an end");
-    free(words - GUARD);
+    unmap(words, space);
     give_back(&tables);
     tried++;
 }
