@@ -104,10 +104,10 @@ void print_open_files(void) {
     print_heading("open files");
     for (size_t i = 0; i < sizeof open_files / sizeof *open_files; i++) {
         int shape = 0;
-        while (strcmp(shapes[shape].name, open_files[i].shape) != 0)
+        while (shape < SHAPES && strcmp(shapes[shape].name, open_files[i].shape) != 0)
             shape++;
-        if (!largest(&shapes[shape], MOST_BYTES, &file, &text)) {
-            fprintf(stderr, "bench: %s: no file fits\n", shapes[shape].name);
+        if (shape == SHAPES || !largest(&shapes[shape], MOST_BYTES, &file, &text)) {
+            fprintf(stderr, "bench: %s: no such shape, or no file fits\n", open_files[i].shape);
             exit(1);
         }
         begin(open_files[i].opened, &text, &o);
