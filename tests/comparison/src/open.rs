@@ -13,31 +13,9 @@ const TRIALS: usize = 3;
 const MOST_ENTERED: usize = 12;
 
 #[repr(C)]
-#[derive(Clone, Copy)]
-struct CCounts {
-    atoms: usize,
-    formulas: usize,
-    rows: usize,
-    left: usize,
-    right: usize,
-}
-
-impl CCounts {
-    fn of(counts: Counts) -> CCounts {
-        let Counts { atoms, formulas, rows, left, right } = counts;
-        CCounts { atoms, formulas, rows, left, right }
-    }
-
-    fn counts(self) -> Counts {
-        let CCounts { atoms, formulas, rows, left, right } = self;
-        Counts { atoms, formulas, rows, left, right }
-    }
-}
-
-#[repr(C)]
 struct Opened {
     answer: Answer,
-    counts: CCounts,
+    counts: Counts,
 }
 
 // As include/govelamuth.h declares them.
@@ -67,7 +45,7 @@ unsafe extern "C" {
         left_length: usize,
         right: *mut u16,
         right_length: usize,
-        counts: CCounts,
+        counts: Counts,
     ) -> Opened;
     fn elk_preview(
         text: *const u8,
@@ -80,7 +58,7 @@ unsafe extern "C" {
         left_length: usize,
         right: *const u16,
         right_length: usize,
-        counts: CCounts,
+        counts: Counts,
     ) -> Answer;
 }
 
@@ -137,18 +115,14 @@ fn opened(text: &[u8], lent: &Tables<usize>, memory: &mut Tables<Vec<u16>>) -> O
 struct Memory {
     tables: Tables<Vec<u16>>,
     lent: Tables<usize>,
-    counts: CCounts,
+    counts: Counts,
 }
 
 impl Memory {
     fn of(file: &OpenFile) -> Memory {
         let tables = tables(file);
         let lent = tables.clone().map(|table| table.len());
-        Memory {
-            tables: tables.map(|table| [&table[..], &GUARD].concat()),
-            lent,
-            counts: CCounts::of(file.counts),
-        }
+        Memory { tables: tables.map(|table| [&table[..], &GUARD].concat()), lent, counts: file.counts }
     }
 
     fn add(&mut self, text: &[u8]) -> Opened {
@@ -232,14 +206,14 @@ fn entered(text: &[u8], lent: &Tables<usize>, opening: &Opening) -> Result<(), S
     let Opened { answer, counts } = opened(&held, lent, &mut whole);
     let lines = held.iter().filter(|&&byte| byte == b'\n').count();
     same_answer("elk_open of rows that were added", answer, 0, lines)?;
-    same_counts("rows that were added", memory.counts, counts.counts())?;
+    same_counts("rows that were added", memory.counts, counts)?;
     let whole = Tables { names: vec![], ..whole.map(|table| table[..table.len() - GUARD.len()].to_vec()) };
     same_tables("rows that were added", memory.tables, &whole)
 }
 
-fn same_counts(entry: &str, given: CCounts, expected: Counts) -> Result<(), String> {
-    match given.counts() == expected {
+fn same_counts(entry: &str, given: Counts, expected: Counts) -> Result<(), String> {
+    match given == expected {
         true => Ok(()),
-        false => Err(format!("{entry} hands back {:?} for {expected:?}", given.counts())),
+        false => Err(format!("{entry} hands back {given:?} for {expected:?}")),
     }
 }

@@ -12,6 +12,7 @@
 
 use crate::corpus::unescaped;
 use crate::judge::LEAST;
+use crate::line::lines;
 use crate::open::{OpenFile, open};
 use std::collections::HashMap;
 use std::path::{Path, PathBuf};
@@ -80,11 +81,6 @@ impl Adding {
     fn text(&self, name: &str) -> Option<Vec<u8>> {
         std::fs::read(self.folder.join(format!("{name}.txt"))).ok()
     }
-}
-
-/// The lines of a text, each with its LF.
-fn lines(text: &[u8]) -> impl Iterator<Item = &[u8]> {
-    text.split_inclusive(|&byte| byte == b'\n')
 }
 
 fn make(file: &mut OpenFile, change: &str) -> Option<()> {

@@ -1,6 +1,7 @@
 //! Random open files and rows to add, and what must hold of rows that are entered one by one.
 
 use crate::judge::{Judgement, MOST_BYTES, MOST_FORMULAS, MOST_IN_A_POOL, MOST_ROWS, Tables};
+use crate::line::lines;
 use crate::mutate::mutate;
 use crate::open::{OpenFile, Opening, open};
 use crate::random::Random;
@@ -22,14 +23,9 @@ pub struct Entry<'t> {
     pub numbers: Vec<u16>,
 }
 
-/// The lines of a text, each with its LF.
-fn lines(text: &[u8]) -> Vec<&[u8]> {
-    text.split_inclusive(|&byte| byte == b'\n').collect()
-}
-
 /// The first lines of a text, so many.
 fn first_lines(text: &[u8], count: usize) -> &[u8] {
-    &text[..lines(text)[..count].iter().map(|line| line.len()).sum()]
+    &text[..lines(text).take(count).map(<[u8]>::len).sum()]
 }
 
 /// The rows to enter, by what the text answers when it is opened. None if nothing of it is judged,
@@ -38,7 +34,7 @@ pub fn entry<'t>(text: &'t [u8], opening: &Opening, most: usize) -> Option<Entry
     if matches!(opening.number, 1 | 2) {
         return None;
     }
-    let lines = lines(text);
+    let lines: Vec<&[u8]> = lines(text).collect();
     // The refused line is the last to be entered.
     let judged = opening.line.min(lines.len());
     let is_row = |line: &&[u8]| line.starts_with(b"N\t");
@@ -92,7 +88,7 @@ pub fn check(text: &[u8], lent: &Tables<usize>, judgement: &Judgement, most: usi
 
 /// Some beginning of a text, opened, changed or not, and some text for a row.
 pub fn trial(random: &mut Random, text: &[u8], lent: &Tables<usize>, opening: &Opening) -> Option<Trial> {
-    let lines = lines(text);
+    let lines: Vec<&[u8]> = lines(text).collect();
     let good = match opening.number {
         0 => lines.len(),
         1 | 2 => return None,

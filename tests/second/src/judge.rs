@@ -197,7 +197,7 @@ pub(crate) fn beginning<'t>(
     }
     let mut checker = Checker::new(text, deciding);
     let (mut claim, mut start, mut count) = (None, 0, 0);
-    for line in text.split_inclusive(|&byte| byte == b'\n') {
+    for line in line::lines(text) {
         count += 1;
         let at_line = |refusal| (refusal, count);
         let body = line.strip_suffix(b"\n").ok_or(at_line(Refusal::BadLine))?;

@@ -35,6 +35,11 @@ pub struct Row {
     pub right: List,
 }
 
+/// The lines of a text, each with its LF; the last may lack it.
+pub fn lines(text: &[u8]) -> impl Iterator<Item = &[u8]> {
+    text.split_inclusive(|&byte| byte == b'\n')
+}
+
 /// Reads a line that starts at byte `start` of the text; the LF is taken off.
 pub fn read(line: &[u8], start: usize) -> Option<Line> {
     let fields: Vec<&[u8]> = line.split(|&byte| byte == b'\t').collect();

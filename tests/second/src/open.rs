@@ -14,7 +14,8 @@ use crate::line::{self, Line, Number, Row, Word};
 use crate::list::List;
 use crate::rules::ELK;
 
-/// How many items there are, and how many entries in each pool.
+/// How many items there are, and how many entries in each pool, laid out as C has them.
+#[repr(C)]
 #[derive(Clone, Copy, Debug, Default, Eq, PartialEq)]
 pub struct Counts {
     pub atoms: usize,
@@ -189,7 +190,7 @@ fn side(pool: &[u16], start: u16, length: u16) -> Option<List> {
 
 /// The row of a text that is one N line, with its LF and nothing after it.
 fn one_row(text: &[u8]) -> Option<Line> {
-    let lines: Vec<&[u8]> = text.split_inclusive(|&byte| byte == b'\n').collect();
+    let lines: Vec<&[u8]> = line::lines(text).collect();
     let [line] = lines[..] else { return None };
     match line::read(line.strip_suffix(b"\n")?, 0)? {
         row @ Line::Row { .. } => Some(row),

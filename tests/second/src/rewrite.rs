@@ -1,6 +1,7 @@
 //! Lists written in another way: the same numbers, with other runs.
 
 use crate::judge::MOST_BYTES;
+use crate::line::lines;
 use crate::random::Random;
 use std::ops::Range;
 
@@ -32,7 +33,7 @@ pub fn at_random(random: &mut Random, text: &[u8]) -> Option<Vec<u8>> {
 /// that are no list stay as they are.
 fn rewritten(text: &[u8], mut together: impl FnMut(usize) -> usize) -> Option<Vec<u8>> {
     let mut written = vec![];
-    for line in text.split_inclusive(|&byte| byte == b'\n') {
+    for line in lines(text) {
         let body = line.strip_suffix(b"\n").unwrap_or(line);
         let fields: Vec<&[u8]> = body.split(|&byte| byte == b'\t').collect();
         let lists = lists_of(&fields);

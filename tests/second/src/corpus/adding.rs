@@ -4,6 +4,7 @@
 use super::opening::{counts, stored};
 use super::{Case, by_hand, handed_in, row_texts};
 use crate::draft::list;
+use crate::line::lines;
 
 /// A beginning, changes of what it has left, the text of a row as it is listed, and the
 /// answer: number, line, and what is stored.
@@ -57,7 +58,7 @@ pub fn cases(texts: &[Case]) -> Vec<Adding> {
 /// text; and that row. None after a model or a claim: an open file has no stage, and what is out
 /// of order after these is not so here.
 fn last_row(case: &Case) -> Option<(Vec<&[u8]>, &[u8])> {
-    let mut lines: Vec<&[u8]> = case.text.split_inclusive(|&byte| byte == b'\n').collect();
+    let mut lines: Vec<&[u8]> = lines(&case.text).collect();
     let place = match case.number {
         0 => lines.iter().rposition(|line| line.starts_with(b"N"))?,
         3 | 4 | 5 | 7 | 9 | 10 | 11 | 18 => case.line.checked_sub(1)?,
