@@ -21,14 +21,14 @@ static char text[MOST_WRITTEN];
 static size_t text_length;
 
 static void put(const char *format, ...) {
-    if (text_length >= sizeof text) {
-        fputs("handed_in: no room for the text\n", stderr);
-        exit(1);
-    }
     va_list arguments;
     va_start(arguments, format);
     text_length += (size_t)vsnprintf(text + text_length, sizeof text - text_length, format, arguments);
     va_end(arguments);
+    if (text_length >= sizeof text) {
+        fputs("handed_in: no room for the text\n", stderr);
+        exit(1);
+    }
 }
 
 static void put_field(uint16_t number, char end) {
@@ -274,7 +274,6 @@ static void try_opening(const char *name, struct bytes beginning) {
 
 /* # and its negations, as many formulas as there can be, and rows about the last of them, up to the limit and one beyond. */
 static void try_more_than_a_text(void) {
-    const char *name = "more than a text";
     uint16_t last = 1023;
     text_length = 0;
     put("F\t0\tbot\t-\t-\n");
@@ -297,7 +296,7 @@ static void try_more_than_a_text(void) {
     expect(same_counts(file.counts, (struct elk_counts){0, last + 1u, MOST_ROWS, MOST_ROWS, MOST_ROWS}), "other counts");
     expect(tables_equal(&file.tables, &good.tables), "other tables");
     expect(can_be_written(&file) && text_length > MOST_BYTES, "it can be written in a text");
-    end_case(name);
+    end_case("more than a text");
 }
 
 int main(int count, char **names) {
