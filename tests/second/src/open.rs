@@ -265,6 +265,24 @@ mod tests {
         assert_eq!(file.preview(&long), (1, 0));
     }
 
+    /// 2 judges the row's text alone: a file may stand for more lines than a text can hold.
+    #[test]
+    fn a_file_may_be_longer_than_a_text() {
+        let negations: String = (1..MOST_FORMULAS).map(|k| format!("F\t{k}\tnot\t{}\t-\n", k - 1)).collect();
+        let row = |number: usize| format!("N\t{number}\tsame\t1023\t-\t1023\t1023\n").into_bytes();
+        let held = MOST_ROWS - 1;
+        assert!(negations.len() + (0..held).map(|k| row(k).len()).sum::<usize>() > MOST_BYTES);
+        let mut file = opened(&format!("F\t0\tbot\t-\t-\n{negations}"));
+        for (k, record) in (0..held as u16).zip(file.rows.chunks_exact_mut(8)) {
+            record.copy_from_slice(&[1, 1_023, ABSENT, ABSENT, k, 1, k, 1]);
+        }
+        file.left[..held].fill(1_023);
+        file.right[..held].fill(1_023);
+        file.counts = Counts { rows: held, left: held, right: held, ..file.counts };
+        assert_eq!(file.add(&row(held)), (0, 1));
+        assert_eq!(file.preview(&row(MOST_ROWS)), (5, 1));
+    }
+
     #[test]
     fn names_do_not_matter() {
         let mut file = opened(BEGINNING);
