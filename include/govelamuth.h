@@ -7,10 +7,11 @@
  * contradiction is shown: the text has no M line, the claim's right side is empty or holds only falsum, and its left side has no
  * equilibrium model.
  *
- * elk_open, elk_add and elk_preview judge a text that is still being written. Their number 0 says that each line so far passes, and
- * nothing of a claim. They are in libgovelamuth_open.a, the others in libgovelamuth.a; neither needs the other.
+ * elk_open, elk_add and elk_preview judge a text that is still being written. Their number 0 says that each line so far passes; by
+ * itself it confirms no claim, since there need be none. They are in libgovelamuth_open.a, the others in libgovelamuth.a; neither
+ * library needs the other.
  *
- * They need no initialisation, keep no pointer, touch nothing but what is lent, use no heap and no global state, and so are
+ * All calls need no initialisation, keep no pointer, touch nothing but what is lent, use no heap and no global state, and so are
  * reentrant. A pointer that comes with length 0 is never followed, but must not be null: pass the address of anything.
  * The lent memory must not overlap.
  */
@@ -20,7 +21,7 @@
 #include <stddef.h>
 #include <stdint.h>
 
-/* What a number means. */
+/* What a number means. 0 is told of a whole text; of a beginning or a row see elk_open and elk_add. */
 enum elk_number {
     ELK_ACCEPTED = 0, /* confirmed, or a contradiction shown */
     ELK_SHORT_TABLE = 1, /* a lent table is too short */
@@ -108,9 +109,10 @@ struct elk_opened elk_open(const uint8_t *text, size_t text_length,
  * neither lent nor read.
  * The first of these that applies is the answer:
  * - number 1 with line 0 if a table is shorter than 3,072, 16,384, 16,384 or 16,384 numbers;
- * - number 4 with line 0 if counts and tables are no open file: a count passes its limit, a formula, row or pool breaks the rules of the
- *   text form, or some number after what the counts say, up to the end of the table, is not zero. Every row is judged again at each
- *   call, so that nothing rests on where the tables were meanwhile. Any count of atoms up to 64 is good that has all atoms in use;
+ * - number 4 with line 0 if counts and tables are no open file: a count passes its limit, or one of entries is not that of the rows'
+ *   sides; a formula, row or pool breaks the rules of the text form; or some number after what the counts say, up to the end of the
+ *   table, is not zero. Every row is judged again at each call, so that nothing rests on where the tables were meanwhile. Any count of
+ *   atoms up to 64 is good that has all atoms in use;
  * - number 2 with line 0 if the text, this row alone, has over 65,536 bytes;
  * - with line 1, number 3, number 4 if the row's number is not the count of rows, and 5, 7, 9, 10, 18 and 11 as on an N line of a file;
  * - number 0 with line 1: the row stands behind the others in rows, left and right, as elk_open would put it there, and the counts that

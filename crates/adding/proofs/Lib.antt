@@ -1,2 +1,3 @@
+pub mod OpenFiles
 mod RowTexts
 mod Trying

@@ -6,7 +6,7 @@ use parts::refusals::BAD_LINE;
 use run::Ran;
 use state::CLAIMED;
 
-// Refusal number and line; number 0 is acceptance, with the line of the claim.
+// Refusal number and line; number 0 is acceptance, with a line that the call names: of a whole text the claim's.
 #[repr(C)]
 pub struct Answer {
     pub number: u32,

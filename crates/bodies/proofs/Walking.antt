@@ -52,6 +52,42 @@ good-within g =
     all-true (le-leb _ _ (held .few-atoms)) (le-leb _ _ (held .few-nodes)) (le-leb _ _ (held .few-rows)) (le-leb _ _ (held .few-left))
     (le-leb _ _ (held .few-right))
 
+-- what the tables and counts of an open file show without a walk
+
+module _ (t : Tables) (c : Counts) (b : Body) (o : IsOpen t c b) where
+  formulas-padded : t .formulas ≡ padded (length (t .formulas)) (encodeBody [] b .formulas)
+  formulas-padded = ap (λ (u : Tables). u .formulas) (o .tables)
+
+  rows-padded : t .rows ≡ padded (length (t .rows)) (encodeBody [] b .rows)
+  rows-padded = ap (λ (u : Tables). u .rows) (o .tables)
+
+  left-padded : t .left ≡ padded (length (t .left)) (encodeBody [] b .left)
+  left-padded = ap (λ (u : Tables). u .left) (o .tables)
+
+  right-padded : t .right ≡ padded (length (t .right)) (encodeBody [] b .right)
+  right-padded = ap (λ (u : Tables). u .right) (o .tables)
+
+  -- the tables of an open file begin with what its body's hold
+  pub open-read : Read t b
+  open-read =
+      record {
+        good = o .good;
+        nodes = record { records = begins-padded formulas-padded };
+        rows = record { records = begins-padded rows-padded; left-pool = begins-padded left-padded; right-pool = begins-padded right-padded };
+      }
+
+  open-within : within c ≡ true
+  open-within = ap within (o .counts) ∙ good-within (o .good)
+
+  open-zeros : zerosAfter t c ≡ true
+  open-zeros =
+      let held = encodeBody [] b in
+      ap (zerosAfter t) (o .counts)
+      ∙ all-true refl (padded-zeros (held .formulas) (t .formulas) _ (nodes-length (b .nodes)) formulas-padded)
+      (padded-zeros (held .rows) (t .rows) _ (rows-length (b .rows)) rows-padded)
+      (padded-zeros (held .left) (t .left) _ refl left-padded)
+      (padded-zeros (held .right) (t .right) _ refl right-padded)
+
 same-tables : (t u : Tables) → t .formulas ≡ u .formulas → t .rows ≡ u .rows → t .left ≡ u .left → t .right ≡ u .right → t ≡ u
 same-tables t u f r l q =
     ap₂ (λ (x y : List ℕ). record { formulas = x; rows = y; left = t .left; right = t .right }) f r
@@ -233,43 +269,12 @@ finds-rows (row {b} g r ok) t held =
     ∙ ap (λ (o : Option Row). andThen o (λ q. unless (first (bodyTests b q)) (addRow b q))) (row-put t b r g ok held)
     ∙ ap (λ (o : Option ℕ). unless o (addRow b r)) ok
 
-module _ (t : Tables) (c : Counts) (b : Body) (o : IsOpen t c b) where
-  formulas-padded : t .formulas ≡ padded (length (t .formulas)) (encodeBody [] b .formulas)
-  formulas-padded = ap (λ (u : Tables). u .formulas) (o .tables)
-
-  rows-padded : t .rows ≡ padded (length (t .rows)) (encodeBody [] b .rows)
-  rows-padded = ap (λ (u : Tables). u .rows) (o .tables)
-
-  left-padded : t .left ≡ padded (length (t .left)) (encodeBody [] b .left)
-  left-padded = ap (λ (u : Tables). u .left) (o .tables)
-
-  right-padded : t .right ≡ padded (length (t .right)) (encodeBody [] b .right)
-  right-padded = ap (λ (u : Tables). u .right) (o .tables)
-
-  -- the tables of an open file begin with what its body's hold
-  pub open-read : Read t b
-  open-read =
-      record {
-        good = o .good;
-        nodes = record { records = begins-padded formulas-padded };
-        rows = record { records = begins-padded rows-padded; left-pool = begins-padded left-padded; right-pool = begins-padded right-padded };
-      }
-
-  open-zeros : zerosAfter t (countsOf b) ≡ true
-  open-zeros =
-      let held = encodeBody [] b in
-      all-true refl (padded-zeros (held .formulas) (t .formulas) _ (nodes-length (b .nodes)) formulas-padded)
-      (padded-zeros (held .rows) (t .rows) _ (rows-length (b .rows)) rows-padded)
-      (padded-zeros (held .left) (t .left) _ refl left-padded)
-      (padded-zeros (held .right) (t .right) _ refl right-padded)
-
 pub open-found : (t : Tables) (c : Counts) (b : Body) → IsOpen t c b → bodyIn t c ≡ some b
 unfolding bodyIn
 open-found t c b o =
     let read = open-read t c b o in
-    ap (bodyIn t) (o .counts)
-    ∙ ap₂ (λ (i j : Bool). onlyIf (i && j) (andThen (walkedNodes t (countsOf b)) (walkedRows t (countsOf b))))
-    (good-within (o .good)) (open-zeros t c b o)
+    ap₂ (λ (i j : Bool). onlyIf (i && j) (andThen (walkedNodes t c) (walkedRows t c))) (open-within t c b o) (open-zeros t c b o)
+    ∙ ap (λ (d : Counts). andThen (walkedNodes t d) (walkedRows t d)) (o .counts)
     ∙ ap (λ (q : Option Body). andThen q (walkedRows t (countsOf b))) (finds-nodes (o .good) t (read .nodes))
     ∙ ap (λ (q : Option Body). andThen q (λ u. onlyIf (poolsAgree (countsOf b) u) (some u))) (finds-rows (o .good) t (read .rows))
     ∙ ap₂ (λ (i j : Bool). onlyIf (i && j) (some b)) (eq-eqb (length (leftPool (b .rows))) _ refl) (eq-eqb (length (rightPool (b .rows))) _ refl)

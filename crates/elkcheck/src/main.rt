@@ -178,7 +178,8 @@ fn wants_trial() -> bool {
     word[2] == b'y'
 }
 
-// The number that the second word is. One of over five digits counts as the most of five: it is longer than any text, too.
+// The number that the second word is. One of over five digits counts as the most of five, since both are longer than any text; so does a
+// word that is no number, or is missing.
 fn beginning_length() -> usize {
     let mut word = [0u8; 5];
     let length = os::arg(2, &mut word);

@@ -73,11 +73,11 @@ module _ (f : File) (p : Place) (line : Bytes) where
 
 -- a refusal has a number from 3 on
 
-abbrev Numbered : List Test → Type 0
+abbrev pub Numbered : List Test → Type 0
 Numbered [] = Unit {0}
 Numbered (t ∷ ts) = (3 ≤ t .number) × Numbered ts
 
-numbered : (ts : List Test) (n : ℕ) → Numbered ts → first ts ≡ some n → 3 ≤ n
+pub numbered : (ts : List Test) (n : ℕ) → Numbered ts → first ts ≡ some n → 3 ≤ n
 numbered [] n h e = let z : _≡_ {A = ℕ} 0 1 = cc in absurd (omega arith)
 numbered (t ∷ ts) n h e = cases (t .applies) e (numbered ts n (h .1))
   where

@@ -96,8 +96,8 @@ RowsRead t notes c r =
 
 -- ---- the whole
 
--- With fresh notes the answer says whether the tables and counts are those of a good body, and the notes then know its formulas.
--- With other notes it is free; their length stays in any case.
+-- With fresh notes the answer says whether the tables and counts are those of a good body, and if so the notes then know its formulas.
+-- Free: the answer with other notes, and what the notes hold then or where the answer is false. Their length stays in any case.
 pub record BodyRead (t : Tables) (c : Counts) (notes notes′ : List ℕ) (r : Bool) : Type 0 where
   pub found : Roomy notes → notes ≡ replicate (length notes) 0 → r ≡ true → (b : Body) × IsOpen t c b × Known b notes′
   pub missing : Roomy notes → notes ≡ replicate (length notes) 0 → r ≡ false → (b : Body) → IsOpen t c b → ⊥

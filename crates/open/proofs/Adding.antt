@@ -3,22 +3,22 @@
 use Prim.Native.Nat.{ℕ, _≤_}
 use native.Mathlib.Omega.{arith}
 use mathlib.Core.Path.{_≡_, refl, sym, ap, subst, _∙_}
-use mathlib.Core.Bool.{Bool, true, false, not, cond, _||_}
+use mathlib.Core.Bool.{Bool, true, false, cond, _||_}
 use mathlib.Core.List.{[]}
 use mathlib.Core.Option.{Option, none, some}
 use mathlib.Core.Logic.{_↔_}
-use lib.Dec.{eqb, ltb}
+use lib.Dec.{ltb}
 use lib.ListN.{length}
 use borrow.Author.Tests.{ltb-false}
 use Rattle.format.specs.Text.{Bytes}
 use Rattle.format.specs.File.{Row, Body, addRow}
 use Rattle.format.specs.Line.{Line, atomLine, formulaLine, rowLine, modelLine, claimLine}
 use Rattle.format.specs.Tables.{Lent, tooShort, least, mostBytes, encodeBody}
-use Rattle.format.specs.Tests.{_when_, first, bodyTests}
-use Rattle.format.specs.Judged.{Outcome, next, refused, accepted, turnedDown}
+use Rattle.format.specs.Tests.{first, bodyTests}
+use Rattle.format.specs.Judged.{Outcome, next, refused, accepted, turnedDown, numberIn}
 use Rattle.format.specs.Good.{GoodBody, row}
 use Rattle.format.proofs.Booleans.{or-false, or-false₄}
-use Rattle.format.proofs.Stepping.{first-passes}
+use Rattle.format.proofs.Stepping.{numbered, first-passes}
 use Rattle.format.proofs.Tested.{passes}
 use Rattle.format.proofs.GoodBodies.{good-held}
 use Rattle.counts.specs.Counts.{countsOf}
@@ -29,15 +29,15 @@ use Rattle.bodies.specs.Open.{Tables, lentOf, filled, IsOpen}
 use Rattle.bodies.proofs.Walking.{one-body, open?}
 use Rattle.open.specs.Adding.{saidIn, openTests, entered, withLine, withText, inBody, tried, rulingOf, countsAfter, tablesAfter, added, previewed}
 
--- tables that are too short are refused first
-pub tried-short : (t : Tables) (c : Counts) (text : Bytes) → tooShort (lentOf t) ≡ true → tried t c text ≡ refused 1 0
-unfolding tried
-tried-short t c text short = ap (λ (i : Bool). cond i (refused 1 0) (inBody (open? t c) (withText text))) short
-
 -- in tables that are long enough the body decides
 tried-long : (t : Tables) (c : Counts) (text : Bytes) → tooShort (lentOf t) ≡ false → tried t c text ≡ inBody (open? t c) (withText text)
 unfolding tried
 tried-long t c text long = ap (λ (i : Bool). cond i (refused 1 0) (inBody (open? t c) (withText text))) long
+
+-- tables that are too short are refused first
+pub tried-short : (t : Tables) (c : Counts) (text : Bytes) → tooShort (lentOf t) ≡ true → tried t c text ≡ refused 1 0
+unfolding tried
+tried-short t c text short = ap (λ (i : Bool). cond i (refused 1 0) (inBody (open? t c) (withText text))) short
 
 -- in an open file, the row is judged by its body
 pub tried-open : (t : Tables) (c : Counts) (b : Body) (text : Bytes) → tooShort (lentOf t) ≡ false → IsOpen t c b → tried t c text ≡ withText text b
@@ -68,26 +68,9 @@ line-refused (some (rowLine m r)) b n l e = by-tests (first (openTests b m r)) e
 line-refused (some (modelLine atoms)) b n l e = cc
 line-refused (some (claimLine left right)) b n l e = cc
 
--- so a text is refused with 2 if with line 0
-text-refused : (text : Bytes) (b : Body) (n : ℕ) → withText text b ≡ refused n 0 → n ≡ 2
-unfolding withText
-text-refused text b n e = long (ltb mostBytes (length text)) e
-  where
-    long : (i : Bool) → cond i (refused 2 0) (withLine (saidIn text) b) ≡ refused n 0 → n ≡ 2
-    long true k = cc
-    long false k = let one : _≡_ {A = ℕ} 0 1 = line-refused (saidIn text) b n 0 k in absurd (omega arith)
-
 ruled : (o : Outcome Body) (n l : ℕ) → rulingOf o ≡ turnedDown n l → o ≡ refused n l
 ruled (next b) n l e = let z : _≡_ {A = ℕ} 0 1 = cc in absurd (omega arith)
 ruled (refused m k) n l e = cc
-
--- in tables that are long enough: 4 and line 0 exactly if there is no such body
-pub four-exactly : (t : Tables) (c : Counts) (text : Bytes) → tooShort (lentOf t) ≡ false
-    → (added t c text .ruling ≡ turnedDown 4 0) ↔ ((b : Body) → IsOpen t c b → ⊥)
-four-exactly t c text long = (
-  λ e b o. let two : _≡_ {A = ℕ} 4 2 = text-refused text b 4 (sym (tried-open t c b text long o) ∙ ruled (tried t c text) 4 0 e) in omega arith,
-  λ h. ap rulingOf (tried-none t c text long h),
-)
 
 -- in an open file: 2 and line 0 exactly if the text is too long
 pub two-exactly : (t : Tables) (c : Counts) (b : Body) (text : Bytes) → tooShort (lentOf t) ≡ false → IsOpen t c b
@@ -101,6 +84,60 @@ two-exactly t c b text long o = (
     to : (i : Bool) → cond i (refused 2 0) (withLine (saidIn text) b) ≡ refused 2 0 → i ≡ true
     to true k = refl
     to false k = let one : _≡_ {A = ℕ} 0 1 = line-refused (saidIn text) b 2 0 k in absurd (omega arith)
+
+-- a text is refused with 2 if with line 0
+text-refused : (text : Bytes) (b : Body) (n : ℕ) → withText text b ≡ refused n 0 → n ≡ 2
+unfolding withText
+text-refused text b n e = long (ltb mostBytes (length text)) e
+  where
+    long : (i : Bool) → cond i (refused 2 0) (withLine (saidIn text) b) ≡ refused n 0 → n ≡ 2
+    long true k = cc
+    long false k = let one : _≡_ {A = ℕ} 0 1 = line-refused (saidIn text) b n 0 k in absurd (omega arith)
+
+-- in tables that are long enough: 4 and line 0 exactly if there is no such body
+pub four-exactly : (t : Tables) (c : Counts) (text : Bytes) → tooShort (lentOf t) ≡ false
+    → (added t c text .ruling ≡ turnedDown 4 0) ↔ ((b : Body) → IsOpen t c b → ⊥)
+four-exactly t c text long = (
+  λ e b o. let two : _≡_ {A = ℕ} 4 2 = text-refused text b 4 (sym (tried-open t c b text long o) ∙ ruled (tried t c text) 4 0 e) in omega arith,
+  λ h. ap rulingOf (tried-none t c text long h),
+)
+
+-- a refusal has a number
+tried-refused : (t : Tables) (c : Counts) (text : Bytes) (n l : ℕ) → tried t c text ≡ refused n l → 1 ≤ n
+unfolding tried withText
+tried-refused t c text n l e = lent (tooShort (lentOf t)) e
+  where
+    line : (o : Option Line) (b : Body) → withLine o b ≡ refused n l → 1 ≤ n
+    line none b k = let same : 3 ≡ n = cc in omega arith
+    line (some (atomLine m name)) b k = let same : 3 ≡ n = cc in omega arith
+    line (some (formulaLine m node)) b k = let same : 3 ≡ n = cc in omega arith
+    line (some (modelLine atoms)) b k = let same : 3 ≡ n = cc in omega arith
+    line (some (claimLine left right)) b k = let same : 3 ≡ n = cc in omega arith
+    line (some (rowLine m r)) b k = by-tests (first (openTests b m r)) refl k
+      where
+        by-tests : (o : Option ℕ) → first (openTests b m r) ≡ o → entered o (addRow b r) ≡ refused n l → 1 ≤ n
+        by-tests none q h = let z : _≡_ {A = ℕ} 0 1 = cc in absurd (omega arith)
+        by-tests (some i) q h = let same : i ≡ n = cc in omega (arith, numbered (openTests b m r) i (omega arith) q)
+
+    size : (b : Body) (long : Bool) → cond long (refused 2 0) (withLine (saidIn text) b) ≡ refused n l → 1 ≤ n
+    size b true k = let same : 2 ≡ n = cc in omega arith
+    size b false k = line (saidIn text) b k
+
+    body : (d : Dec ((b : Body) × IsOpen t c b)) → inBody d (withText text) ≡ refused n l → 1 ≤ n
+    body (yes p) k = size (p .0) (ltb mostBytes (length text)) k
+    body (no h) k = let same : 4 ≡ n = cc in omega arith
+
+    lent : (short : Bool) → cond short (refused 1 0) (inBody (open? t c) (withText text)) ≡ refused n l → 1 ≤ n
+    lent true k = let same : 1 ≡ n = cc in omega arith
+    lent false k = body (open? t c) k
+
+-- so number 0 says that the row is added, with line 1
+pub added-zero : (t : Tables) (c : Counts) (text : Bytes) → numberIn (added t c text .ruling) ≡ 0 → added t c text .ruling ≡ accepted 1
+added-zero t c text e = by-outcome (tried t c text) refl e
+  where
+    by-outcome : (o : Outcome Body) → tried t c text ≡ o → numberIn (rulingOf o) ≡ 0 → rulingOf o ≡ accepted 1
+    by-outcome (next b) k h = refl
+    by-outcome (refused n l) k h = absurd (omega (arith, h, tried-refused t c text n l k))
 
 -- a refusal leaves counts and tables as they were
 pub refused-unchanged : (t : Tables) (c : Counts) (text : Bytes) (n l : ℕ) → added t c text .ruling ≡ turnedDown n l
@@ -213,7 +250,7 @@ accepted-open t c text l e = long (tooShort (lentOf t)) refl (gone (tried t c te
         let s = row-tests (first (openTests b n r)) (addRow b r) k in
         let whole : tried t c text ≡ next (addRow b r) = result ∙ ap (λ (d : Body). next d) (sym (s .1)) in
         let good : GoodBody (addRow b r) = row (o .good) r
-        (sym (first-passes (4 when not (eqb n (length (b .rows)))) (bodyTests b r) (passes 4 (openTests b n r) (s .0))) ∙ s .0) in
+        (sym (first-passes _ (bodyTests b r) (passes 4 (openTests b n r) (s .0))) ∙ s .0) in
         record {
           body = b;
           number = n;

@@ -188,6 +188,8 @@ rowTexts =
     (bytes "N\t2\tsame\t0\t-\t0\t0\n" earns accepted 1)
     -- with a run
     ∷ (bytes "N\t2\tsame\t0\t-\t0-1\t0\n" earns accepted 1)
+    -- by `swap`, a formula for itself
+    ∷ (bytes "N\t2\tswap\t0\t0\t0\t0\n" earns accepted 1)
     -- no line: empty, without LF, bytes after it, a second one
     ∷ (bytes "" earns turnedDown 3 1)
     ∷ (bytes "\n" earns turnedDown 3 1)

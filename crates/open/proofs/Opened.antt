@@ -2,25 +2,31 @@
 -- comes to after the others.
 use Prim.Native.Nat.{ℕ, _+_, _≤_}
 use native.Mathlib.Omega.{arith}
-use mathlib.Core.Path.{_≡_, refl, ap, ap₂, _∙_}
-use mathlib.Core.Bool.{Bool, false}
-use mathlib.Core.List.{[], _∷_, _++_}
+use mathlib.Core.Path.{_≡_, refl, sym, ap, ap₂, _∙_}
+use mathlib.Core.Bool.{Bool, true, false}
+use mathlib.Core.List.{List, [], _∷_, _++_, List·Memᴰ·head, List·Memᴰ·tail}
 use mathlib.Core.Option.{Option, none, some}
+use lib.Dec.{ltb}
 use lib.ListN.{length}
 use borrow.Author.Tests.{ltb-false, le-ltb}
+use Rattle.equilibrium.specs.Meaning.{_∈_}
 use Rattle.format.specs.Text.{Bytes, Lines, linesOf}
-use Rattle.format.specs.File.{Stage, in-atoms, in-formulas, in-rows, modelled, claimed, File, noFile}
-use Rattle.format.specs.Tables.{Lent, tooShort, mostBytes}
-use Rattle.format.specs.Tests.{_when_, first, rank}
-use Rattle.format.specs.Judged.{Place, Outcome, next, refused, step, after, run, top, beginning, turnedDown, orNoClaim, finish, wholeTests, judged}
+use Rattle.format.specs.File.{Name, Model, Claim, Body, Stage, in-atoms, in-formulas, in-rows, modelled, claimed, File, noFile, atomsGiven}
+use Rattle.format.specs.Line.{Line, atomLine, formulaLine, rowLine, modelLine, claimLine, lineOf}
+use Rattle.format.specs.Tables.{Lent, tooShort, joinAll, nameRecord, encodeBody, mostBytes}
+use Rattle.format.specs.Tests.{_when_, first, rank, modelLineTests, claimTests}
+use Rattle.format.specs.Model.{claimModelTests}
+use Rattle.format.specs.Judged.{Place, Outcome, next, refused, settled, step, after, below, run, top, beginning, numberIn, turnedDown, orNoClaim, finish}
+use Rattle.format.specs.Judged.{wholeTests, judged, Said, saying, saidAfter}
 use Rattle.format.specs.Judged.{orWhole as wholeOr}
 use Rattle.format.specs.Good.{Good}
 use Rattle.format.proofs.Tested.{passes}
 use Rattle.format.proofs.Beginnings.{run-good, good-start}
+use Rattle.format.proofs.Stepping.{step-model, step-claim, step-claim-refused, step-refused}
 use Rattle.format.proofs.Fold.{placeAfter, run-append, refused-stays}
 use Rattle.counts.specs.Counts.{countsOf, noCounts}
 use Rattle.bodies.specs.Open.{Tables, lentOf, filled, IsOpen}
-use Rattle.open.specs.Files.{closed, orWhole, opened, openingContents, openingCounts}
+use Rattle.open.specs.Files.{closed, orWhole, opened, openingRuling, openingContents, openingCounts, UpToRows, IsLater, model, claim}
 use Rattle.open.proofs.Adding.{filled-open}
 use Rattle.open.proofs.JoinedLines.{lines-append}
 
@@ -45,6 +51,38 @@ no-later-line text f e unmodelled unclaimed = by-stage (f .stage) refl
     by-stage in-rows k = omega arith
     by-stage modelled k = absurd (absent unmodelled (g .model-made (ap rank k)))
     by-stage claimed k = absurd (absent unclaimed (g .claim-made (ap rank k)))
+
+-- lines of which none is an M line say no model
+unmodelled : (ls : List Bytes) (s : Said) → ((l : Bytes) (atoms : List ℕ) → l ∈ ls → lineOf l ≡ some (modelLine atoms) → ⊥)
+    → saidAfter s ls .model ≡ s .model
+unmodelled [] s h = refl
+unmodelled (l ∷ ls) s h = unmodelled ls (saying s (lineOf l)) (λ k atoms m e. h k atoms (List·Memᴰ·tail m) e) ∙ by-line (lineOf l) refl
+  where
+    by-line : (o : Option Line) → lineOf l ≡ o → saying s o .model ≡ s .model
+    by-line none e = refl
+    by-line (some (atomLine n name)) e = refl
+    by-line (some (formulaLine n node)) e = refl
+    by-line (some (rowLine n r)) e = refl
+    by-line (some (modelLine atoms)) e = absurd (h l atoms (List·Memᴰ·head refl) e)
+    by-line (some (claimLine left right)) e = refl
+
+-- so a beginning of A, F and N lines has come no further than its rows
+pub up-to-rows : (text : Bytes) (f : File) → beginning text ≡ next f → UpToRows text → rank (f .stage) ≤ rank in-rows
+up-to-rows text f e u = no-later-line text f e (no-model (f .model) refl) (no-claim (f .claim) refl)
+  where
+    g : Good (linesOf text .complete) f
+    g = beginning-good text f e
+
+    said : atomsGiven (f .model) ≡ none
+    said = sym (ap (λ (s : Said). s .model) (g .said)) ∙ unmodelled (linesOf text .complete) _ (u .no-model)
+
+    no-model : (m : Option Model) → f .model ≡ m → m ≡ none
+    no-model none k = refl
+    no-model (some m) k = let given : some (m .atoms) ≡ none = ap atomsGiven (sym k) ∙ said in let z : _≡_ {A = ℕ} 0 1 = cc in absurd (omega arith)
+
+    no-claim : (c : Option Claim) → f .claim ≡ c → c ≡ none
+    no-claim none k = refl
+    no-claim (some c) k = let line = g .claim-said c k in absurd (u .no-claim (line .0) (c .left) (c .right) (line .1) (line .2))
 
 -- what opening a text came to
 
@@ -74,6 +112,37 @@ opened-next lent text f e = whole (first (wholeTests lent text)) refl e
           rest = both .1;
         }
     whole (some n) k h = let z : _≡_ {A = ℕ} 0 1 = cc in absurd (omega arith)
+
+-- lines are refused with 3 or more
+run-refused : (p : Place) (ls : List Bytes) (f : File) (n l : ℕ) → run step p ls f ≡ refused n l → 3 ≤ n
+unfolding run
+run-refused p [] f n l e = let z : _≡_ {A = ℕ} 0 1 = cc in absurd (omega arith)
+run-refused p (x ∷ xs) f n l e = by-step (step f p x) refl e (run-refused (below p x) xs)
+  where
+    by-step : (o : Outcome File) → step f p x ≡ o → after o (run step (below p x) xs) ≡ refused n l
+        → ((g : File) (m k : ℕ) → run step (below p x) xs g ≡ refused m k → 3 ≤ m) → 3 ≤ n
+    by-step (next g) s h rest = rest g n l h
+    by-step (refused m k) s h rest = let same : m ≡ n = cc in omega (arith, step-refused f p x m k s)
+
+-- The number of opening is 0 only where a file is opened.
+pub opened-zero : (lent : Lent) (text : Bytes) → numberIn (openingRuling (opened lent text) text) ≡ 0 → (f : File) × (opened lent text ≡ next f)
+unfolding opened beginning
+opened-zero lent text e = whole (tooShort lent) (ltb mostBytes (length text)) e
+  where
+    lines : Outcome File
+    lines = closed (beginning text) (linesOf text .rest) (length (linesOf text .complete) + 1)
+
+    last : (o : Outcome File) → beginning text ≡ o → (rest : Bytes) (l : ℕ) → numberIn (openingRuling (closed o rest l) text) ≡ 0
+        → (f : File) × (closed o rest l ≡ next f)
+    last (next f) k [] l h = (f, refl)
+    last (next f) k (b ∷ bs) l h = absurd (omega (arith, h))
+    last (refused n j) k rest l h = absurd (omega (arith, h, run-refused top (linesOf text .complete) noFile n j k))
+
+    whole : (short long : Bool) → numberIn (openingRuling (orWhole (first ((1 when short) ∷ (2 when long) ∷ [])) lines) text) ≡ 0
+        → (f : File) × (orWhole (first ((1 when short) ∷ (2 when long) ∷ [])) lines ≡ next f)
+    whole true long h = absurd (omega (arith, h))
+    whole false true h = absurd (omega (arith, h))
+    whole false false h = last (beginning text) refl (linesOf text .rest) _ h
 
 -- no text is refused as a whole in tables that are long enough, if it is not too long
 whole-passes : (lent : Lent) (text : Bytes) → tooShort lent ≡ false → length text ≤ mostBytes → first (wholeTests lent text) ≡ none
@@ -159,6 +228,51 @@ opened-more lent text x l f o one short =
     (ap (λ (ls : Lines). ls .rest) (lines-more text x l (o .rest) one))
     ∙ closed-empty (beginning (text ++ x)) (length (linesOf (text ++ x) .complete) + 1)
     ∙ beginning-more text x l (o .rest) one f (o .lines)
+
+-- An M line or a C line leaves what was opened: the same contents and the same counts.
+pub later-line : (lent : Lent) (text x l : Bytes) (f g : File) → opened lent text ≡ next f → linesOf x ≡ record { complete = l ∷ []; rest = [] }
+    → IsLater (lineOf l) → opened lent (text ++ x) ≡ next g
+    → (openingContents (opened lent (text ++ x)) ≡ openingContents (opened lent text))
+    × (openingCounts (opened lent (text ++ x)) ≡ openingCounts (opened lent text))
+later-line lent text x l f g e one later e′ = (
+  ap openingContents e′ ∙ ap₂ (λ (ns : List Name) (b : Body). encodeBody (joinAll nameRecord ns) b) (same .0) (same .1) ∙ sym (ap openingContents e),
+  ap openingCounts e′ ∙ ap countsOf (same .1) ∙ sym (ap openingCounts e),
+)
+  where
+    Same : Type 0
+    Same = (g .names ≡ f .names) × (g .body ≡ f .body)
+
+    stepped : step f (placeIn text) l ≡ next g
+    stepped = sym (opened-more lent text x l f (opened-next lent text f e) one (opened-next lent (text ++ x) g e′ .short)) ∙ e′
+
+    -- the file with a stage, a model and a claim of its own
+    settles : (o : Option ℕ) (k : ℕ) (h : File) → h .names ≡ f .names → h .body ≡ f .body → settled o k h ≡ next g → Same
+    settles none k h n b s = (sym (ap namesIn s) ∙ n, sym (ap bodyIn s) ∙ b)
+      where
+        namesIn : Outcome File → List Name
+        namesIn (next v) = v .names
+        namesIn (refused m j) = []
+
+        bodyIn : Outcome File → Body
+        bodyIn (next v) = v .body
+        bodyIn (refused m j) = f .body
+    settles (some m) k h n b s = let z : _≡_ {A = ℕ} 0 1 = cc in absurd (omega arith)
+
+    by-line : (o : Option Line) → lineOf l ≡ o → IsLater o → Same
+    by-line o k (model atoms) =
+        settles (first (modelLineTests f atoms)) _ _ refl refl (sym (step-model f (placeIn text) l atoms k) ∙ stepped)
+    by-line o k (claim left right) = by-claim (first (claimTests f left right)) refl
+      where
+        by-claim : (q : Option ℕ) → first (claimTests f left right) ≡ q → Same
+        by-claim none t =
+            settles (first (claimModelTests f left right)) _ _ refl refl (sym (step-claim f (placeIn text) l left right k t) ∙ stepped)
+        by-claim (some m) t =
+            let no : refused m (placeIn text .line) ≡ next g = sym (step-claim-refused f (placeIn text) l left right k m t) ∙ stepped in
+            let z : _≡_ {A = ℕ} 0 1 = cc in
+            absurd (omega arith)
+
+    same : Same
+    same = by-line (lineOf l) refl later
 
 -- lines that are refused stay refused, whatever follows
 pub opened-stays : (lent : Lent) (text ys : Bytes) (n k : ℕ) → tooShort lent ≡ false → linesOf text .rest ≡ [] → length (text ++ ys) ≤ mostBytes

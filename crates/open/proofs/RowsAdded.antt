@@ -23,9 +23,9 @@ use Rattle.counts.specs.declared.Counts.{Counts}
 use Rattle.bodies.specs.Open.{Tables, lentOf, filled}
 use Rattle.bodies.specs.Walk.{andThen}
 use Rattle.open.specs.Adding.{onlyLine, saidIn, openTests, entered, withLine, withText, tried, rulingOf, Added, addedBy, added}
-use Rattle.open.specs.Files.{opened, IsRowText, afterAdded, addedRows, joined, AsOpened}
+use Rattle.open.specs.Files.{opened, UpToRows, IsRowText, afterAdded, addedRows, joined, AsOpened}
 use Rattle.open.proofs.Adding.{tried-open, line-refused, Lengths, filled-lengths, filled-again, still-long}
-use Rattle.open.proofs.Opened.{beginning-good, IsOpened, opened-next, opened-as-judged, opened-judged}
+use Rattle.open.proofs.Opened.{beginning-good, up-to-rows, IsOpened, opened-next, opened-as-judged, opened-judged}
 use Rattle.open.proofs.Opened.{placeIn, lines-more, beginning-more, opened-more, opened-stays}
 
 -- a line whose kind is N: badly written, or a row
@@ -127,9 +127,8 @@ module _ (lent : Lent) (text x : Bytes) (f : File) (o : IsOpened lent text f) (e
         ∙ ap (λ (i : Bool). cond i (refused 2 0) (withLine (saidIn x) (f .body))) (le-ltb mostBytes (length x) (omega (arith, length-append text x)))
         ∙ ap (λ (ls : Lines). withLine (andThen (onlyLine (ls .complete) (ls .rest)) lineOf) (f .body)) (row .one)
 
-    -- Adding one row: the number that the text with the line gives, with line 1; on acceptance, its counts and tables.
-    pub row-as-opened : AsOpened (opened lent (text ++ x)) t (added t (countsOf (f .body)) x)
-    row-as-opened =
+    one-opened : AsOpened (opened lent (text ++ x)) t (added t (countsOf (f .body)) x)
+    one-opened =
         subst (λ (q : Outcome File). AsOpened q t (added t (countsOf (f .body)) x)) (sym opened-line)
         (subst (λ (q : Outcome Body). AsOpened (inFile f (placeIn text .line) (withLine (lineOf (row .line)) (f .body))) t (addedBy t (countsOf (f .body)) q))
         (sym tried-line) (by-outcome (withLine (lineOf (row .line)) (f .body)) (line-refused (lineOf (row .line)) (f .body))))
@@ -139,9 +138,8 @@ module _ (lent : Lent) (text x : Bytes) (f : File) (o : IsOpened lent text f) (e
         by-outcome (next b) h = (refl, refl, refl)
         by-outcome (refused n l) h = ap (turnedDown n) (h n l refl)
 
-    -- And 01's answer to that text: the same number on the row's line, or 13 after it where the row is accepted.
-    pub row-as-judged : judged lent (text ++ x) ≡ inText (length (linesOf text .complete) + 1) (added t (countsOf (f .body)) x .ruling)
-    row-as-judged =
+    one-judged : judged lent (text ++ x) ≡ inText (length (linesOf text .complete) + 1) (added t (countsOf (f .body)) x .ruling)
+    one-judged =
         by-outcome (withLine (lineOf (row .line)) (f .body)) opened-line
         ∙ ap (λ (q : Outcome Body). inText (length (linesOf text .complete) + 1) (rulingOf q)) (sym tried-line)
       where
@@ -196,7 +194,7 @@ in-order lent t long (x ∷ xs) text f e early rows short =
     shorter = omega (arith, length-append text (x ++ joined xs), length-append x (joined xs), length-append text x)
 
     one : AsOpened (opened lent (text ++ x)) now (added now (countsOf (f .body)) x)
-    one = row-as-opened lent text x f o early (rows .0) shorter now (still-long t now same-lengths long) (sym (filled-again t now (f .body) same-lengths))
+    one = one-opened lent text x f o early (rows .0) shorter now (still-long t now same-lengths long) (sym (filled-again t now (f .body) same-lengths))
 
     a : Added
     a = added now (countsOf (f .body)) x
@@ -233,27 +231,41 @@ in-order lent t long (x ∷ xs) text f e early rows short =
             opened-stays lent (text ++ x) (joined xs) n l (o .long) (ap (λ (ls : Lines). ls .rest) (lines-more text x line (o .rest) (rows .0 .one))) short-on
             (beginning-more text x line (o .rest) (rows .0 .one) f (o .lines) ∙ sym (opened-more lent text x line f o (rows .0 .one) shorter) ∙ k)
 
-module _ (lent : Lent) (t : Tables) (long : tooShort (lentOf t) ≡ false) (xs : List Bytes) (text : Bytes) (f : File) (e : opened lent text ≡ next f)
-    (early : rank (f .stage) ≤ rank in-rows) (rows : RowTexts xs) (short : length (text ++ joined xs) ≤ mostBytes) where
-  -- Row after row: a beginning of A, F and N lines is opened, and rows are added in order. What comes of it is what the text with
-  -- these lines opens to: the same number, with line 1, and on acceptance the same counts and tables.
-  pub rows-as-opened : AsOpened (opened lent (text ++ joined xs)) t (addedRows xs (filled t (f .body)) (countsOf (f .body)))
-  rows-as-opened = in-order lent t long xs text f e early rows short .0
+-- a beginning of A, F and N lines that is opened, and tables that are long enough
+module _ (lent : Lent) (t : Tables) (long : tooShort (lentOf t) ≡ false) (text : Bytes) (f : File) (e : opened lent text ≡ next f)
+    (begun : UpToRows text) where
+  early : rank (f .stage) ≤ rank in-rows
+  early = up-to-rows text f (opened-next lent text f e .lines) begun
 
-  -- And 01's answer to that text has the same number, or 13 where all rows are accepted.
-  pub rows-as-judged : numberIn (judged lent (text ++ joined xs)) ≡ withoutClaim (addedRows xs (filled t (f .body)) (countsOf (f .body)) .ruling)
-  rows-as-judged = by-outcome (opened lent (text ++ joined xs)) refl (in-order lent t long xs text f e early rows short)
-    where
-      a : Added
-      a = addedRows xs (filled t (f .body)) (countsOf (f .body))
+  module _ (x : Bytes) (row : IsRowText x) (short : length (text ++ x) ≤ mostBytes) (same : t ≡ filled t (f .body)) where
+    -- Adding one row: the number that the text with the line gives, with line 1; on acceptance, its counts and tables.
+    pub row-as-opened : AsOpened (opened lent (text ++ x)) t (added t (countsOf (f .body)) x)
+    row-as-opened = one-opened lent text x f (opened-next lent text f e) early row short t long same
 
-      by-outcome : (q : Outcome File) → opened lent (text ++ joined xs) ≡ q → InOrder t q a
-          → numberIn (judged lent (text ++ joined xs)) ≡ withoutClaim (a .ruling)
-      by-outcome (next g) k p =
-          let o = opened-next lent (text ++ joined xs) g k in
-          let unclaimed = beginning-good (text ++ joined xs) g (o .lines) .no-claim (omega (arith, p .1)) in
-          ap numberIn (opened-judged lent (text ++ joined xs) g k
-          ∙ ap (λ (c : Option Claim). orNoClaim c (length (linesOf (text ++ joined xs) .complete) + 1)) unclaimed)
-          ∙ ap (λ (w : Ruling). withoutClaim w) (sym (p .0 .0))
-      by-outcome (refused n l) k p =
-          ap numberIn (opened-as-judged lent (text ++ joined xs) n l k) ∙ ap (λ (w : Ruling). withoutClaim w) (sym (p .0))
+    -- And 01's answer to that text: the same number on the row's line, or 13 after it where the row is accepted.
+    pub row-as-judged : judged lent (text ++ x) ≡ inText (length (linesOf text .complete) + 1) (added t (countsOf (f .body)) x .ruling)
+    row-as-judged = one-judged lent text x f (opened-next lent text f e) early row short t long same
+
+  module _ (xs : List Bytes) (rows : RowTexts xs) (short : length (text ++ joined xs) ≤ mostBytes) where
+    -- Row after row: what comes of rows added in order is what the text with these lines opens to. The same number, with line 1, and on
+    -- acceptance the same counts and tables.
+    pub rows-as-opened : AsOpened (opened lent (text ++ joined xs)) t (addedRows xs (filled t (f .body)) (countsOf (f .body)))
+    rows-as-opened = in-order lent t long xs text f e early rows short .0
+
+    -- And 01's answer to that text has the same number, or 13 where all rows are accepted.
+    pub rows-as-judged : numberIn (judged lent (text ++ joined xs)) ≡ withoutClaim (addedRows xs (filled t (f .body)) (countsOf (f .body)) .ruling)
+    rows-as-judged = by-outcome (opened lent (text ++ joined xs)) refl (in-order lent t long xs text f e early rows short)
+      where
+        a : Added
+        a = addedRows xs (filled t (f .body)) (countsOf (f .body))
+
+        by-outcome : (q : Outcome File) → opened lent (text ++ joined xs) ≡ q → InOrder t q a
+            → numberIn (judged lent (text ++ joined xs)) ≡ withoutClaim (a .ruling)
+        by-outcome (next g) k p =
+            let o = opened-next lent (text ++ joined xs) g k in
+            let unclaimed = beginning-good (text ++ joined xs) g (o .lines) .no-claim (omega (arith, p .1)) in
+            ap numberIn (opened-judged lent (text ++ joined xs) g k
+            ∙ ap (λ (c : Option Claim). orNoClaim c (length (linesOf (text ++ joined xs) .complete) + 1)) unclaimed)
+            ∙ ap (λ (w : Ruling). withoutClaim w) (sym (p .0 .0))
+        by-outcome (refused n l) k p =
+            ap numberIn (opened-as-judged lent (text ++ joined xs) n l k) ∙ ap (λ (w : Ruling). withoutClaim w) (sym (p .0))

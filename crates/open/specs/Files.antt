@@ -3,9 +3,12 @@ use Prim.Native.Nat.{ℕ, _+_}
 use mathlib.Core.Path.{_≡_}
 use mathlib.Core.Bool.{true}
 use mathlib.Core.List.{List, [], _∷_}
+use mathlib.Core.Option.{Option, none, some}
 use lib.ListN.{length, getD}
+use Rattle.equilibrium.specs.Meaning.{_∈_}
 use Rattle.format.specs.Text.{Bytes, linesOf, fieldsOf, is}
 use Rattle.format.specs.File.{File, noFile}
+use Rattle.format.specs.Line.{Line, modelLine, claimLine, lineOf}
 use Rattle.format.specs.Tables.{Lent, joinAll, Contents, encode}
 use Rattle.format.specs.Tests.{first}
 use Rattle.format.specs.Judged.{Outcome, next, refused, beginning, Ruling, accepted, turnedDown, wholeTests}
@@ -13,7 +16,6 @@ use Rattle.counts.specs.Counts.{countsOf}
 use Rattle.counts.specs.declared.Counts.{Counts}
 use Rattle.bodies.specs.Open.{Tables, filled}
 use Rattle.open.specs.Adding.{Added, added}
-use mathlib.Core.Option.{Option, none, some}
 
 -- bytes after the last LF are a bad line
 abbrev pub closed : Outcome File → Bytes → ℕ → Outcome File
@@ -48,6 +50,16 @@ openingContents o = encode (fileOpened o)
 -- the counts that opening hands out
 abbrev pub openingCounts : Outcome File → Counts
 openingCounts o = countsOf (fileOpened o .body)
+
+-- a beginning of A, F and N lines: no line is an M line or a C line
+pub record UpToRows (text : Bytes) : Type 0 where
+  pub no-model : (l : Bytes) (atoms : List ℕ) → l ∈ linesOf text .complete → lineOf l ≡ some (modelLine atoms) → ⊥
+  pub no-claim : (l : Bytes) (left right : List ℕ) → l ∈ linesOf text .complete → lineOf l ≡ some (claimLine left right) → ⊥
+
+-- an M line or a C line
+pub data IsLater : Option Line → Type 0 where
+  model : (atoms : List ℕ) → IsLater (some (modelLine atoms))
+  claim : (left right : List ℕ) → IsLater (some (claimLine left right))
 
 -- the text is one line, and its kind is N
 pub record IsRowText (text : Bytes) : Type 0 where

@@ -1,1 +1,2 @@
+pub mod OpenFiles
 mod Whole
