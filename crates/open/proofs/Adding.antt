@@ -55,18 +55,18 @@ tried-none t c text long h = tried-long t c text long ∙ decided (open? t c)
     decided (yes p) = absurd (h (p .0) (p .1))
     decided (no n) = refl
 
--- a line is refused with line 1
-pub line-refused : (o : Option Line) (b : Body) (n l : ℕ) → withLine o b ≡ refused n l → l ≡ 1
-line-refused none b n l e = cc
-line-refused (some (atomLine m name)) b n l e = cc
-line-refused (some (formulaLine m node)) b n l e = cc
-line-refused (some (rowLine m r)) b n l e = by-tests (first (openTests b m r)) e
+-- a line is refused with 3 or more, and with line 1
+pub line-refused : (o : Option Line) (b : Body) (n l : ℕ) → withLine o b ≡ refused n l → (3 ≤ n) × (l ≡ 1)
+line-refused none b n l e = let same : 3 ≡ n = cc in (omega arith, cc)
+line-refused (some (atomLine m name)) b n l e = let same : 3 ≡ n = cc in (omega arith, cc)
+line-refused (some (formulaLine m node)) b n l e = let same : 3 ≡ n = cc in (omega arith, cc)
+line-refused (some (rowLine m r)) b n l e = by-tests (first (openTests b m r)) refl e
   where
-    by-tests : (o : Option ℕ) → entered o (addRow b r) ≡ refused n l → l ≡ 1
-    by-tests none k = let z : _≡_ {A = ℕ} 0 1 = cc in absurd (omega arith)
-    by-tests (some m) k = cc
-line-refused (some (modelLine atoms)) b n l e = cc
-line-refused (some (claimLine left right)) b n l e = cc
+    by-tests : (o : Option ℕ) → first (openTests b m r) ≡ o → entered o (addRow b r) ≡ refused n l → (3 ≤ n) × (l ≡ 1)
+    by-tests none q k = let z : _≡_ {A = ℕ} 0 1 = cc in absurd (omega arith)
+    by-tests (some i) q k = let same : i ≡ n = cc in (omega (arith, numbered (openTests b m r) i (omega arith) q), cc)
+line-refused (some (modelLine atoms)) b n l e = let same : 3 ≡ n = cc in (omega arith, cc)
+line-refused (some (claimLine left right)) b n l e = let same : 3 ≡ n = cc in (omega arith, cc)
 
 ruled : (o : Outcome Body) (n l : ℕ) → rulingOf o ≡ turnedDown n l → o ≡ refused n l
 ruled (next b) n l e = let z : _≡_ {A = ℕ} 0 1 = cc in absurd (omega arith)
@@ -83,7 +83,7 @@ two-exactly t c b text long o = (
   where
     to : (i : Bool) → cond i (refused 2 0) (withLine (saidIn text) b) ≡ refused 2 0 → i ≡ true
     to true k = refl
-    to false k = let one : _≡_ {A = ℕ} 0 1 = line-refused (saidIn text) b 2 0 k in absurd (omega arith)
+    to false k = let one : _≡_ {A = ℕ} 0 1 = line-refused (saidIn text) b 2 0 k .1 in absurd (omega arith)
 
 -- a text is refused with 2 if with line 0
 text-refused : (text : Bytes) (b : Body) (n : ℕ) → withText text b ≡ refused n 0 → n ≡ 2
@@ -92,7 +92,7 @@ text-refused text b n e = long (ltb mostBytes (length text)) e
   where
     long : (i : Bool) → cond i (refused 2 0) (withLine (saidIn text) b) ≡ refused n 0 → n ≡ 2
     long true k = cc
-    long false k = let one : _≡_ {A = ℕ} 0 1 = line-refused (saidIn text) b n 0 k in absurd (omega arith)
+    long false k = let one : _≡_ {A = ℕ} 0 1 = line-refused (saidIn text) b n 0 k .1 in absurd (omega arith)
 
 -- in tables that are long enough: 4 and line 0 exactly if there is no such body
 pub four-exactly : (t : Tables) (c : Counts) (text : Bytes) → tooShort (lentOf t) ≡ false
@@ -107,21 +107,9 @@ tried-refused : (t : Tables) (c : Counts) (text : Bytes) (n l : ℕ) → tried t
 unfolding tried withText
 tried-refused t c text n l e = lent (tooShort (lentOf t)) e
   where
-    line : (o : Option Line) (b : Body) → withLine o b ≡ refused n l → 1 ≤ n
-    line none b k = let same : 3 ≡ n = cc in omega arith
-    line (some (atomLine m name)) b k = let same : 3 ≡ n = cc in omega arith
-    line (some (formulaLine m node)) b k = let same : 3 ≡ n = cc in omega arith
-    line (some (modelLine atoms)) b k = let same : 3 ≡ n = cc in omega arith
-    line (some (claimLine left right)) b k = let same : 3 ≡ n = cc in omega arith
-    line (some (rowLine m r)) b k = by-tests (first (openTests b m r)) refl k
-      where
-        by-tests : (o : Option ℕ) → first (openTests b m r) ≡ o → entered o (addRow b r) ≡ refused n l → 1 ≤ n
-        by-tests none q h = let z : _≡_ {A = ℕ} 0 1 = cc in absurd (omega arith)
-        by-tests (some i) q h = let same : i ≡ n = cc in omega (arith, numbered (openTests b m r) i (omega arith) q)
-
     size : (b : Body) (long : Bool) → cond long (refused 2 0) (withLine (saidIn text) b) ≡ refused n l → 1 ≤ n
     size b true k = let same : 2 ≡ n = cc in omega arith
-    size b false k = line (saidIn text) b k
+    size b false k = omega (arith, line-refused (saidIn text) b n l k .0)
 
     body : (d : Dec ((b : Body) × IsOpen t c b)) → inBody d (withText text) ≡ refused n l → 1 ≤ n
     body (yes p) k = size (p .0) (ltb mostBytes (length text)) k

@@ -14,7 +14,7 @@ use Rattle.format.specs.File.{Row, Claim, Body, Stage, in-atoms, in-formulas, i
 use Rattle.format.specs.Line.{Line, rowLine, rowFields, rowOf, fieldAt, ofKind, lineOf}
 use Rattle.format.specs.Tables.{Lent, tooShort, mostBytes}
 use Rattle.format.specs.Tests.{_when_, first, rank, mayFollow, bodyTests, rowTests}
-use Rattle.format.specs.Judged.{Place, Outcome, next, refused, settled, step, below, top, withRow, Ruling, accepted, turnedDown, numberIn, orNoClaim, judged}
+use Rattle.format.specs.Judged.{Place, Outcome, next, refused, settled, step, below, top, withRow, Ruling, turnedDown, numberIn, orNoClaim, judged}
 use Rattle.format.proofs.Booleans.{same-list}
 use Rattle.format.proofs.Fold.{placeAfter}
 use Rattle.format.proofs.Stepping.{step-bad, step-row}
@@ -23,7 +23,7 @@ use Rattle.counts.specs.declared.Counts.{Counts}
 use Rattle.bodies.specs.Open.{Tables, lentOf, filled}
 use Rattle.bodies.specs.Walk.{andThen}
 use Rattle.open.specs.Adding.{onlyLine, saidIn, openTests, entered, withLine, withText, tried, rulingOf, Added, addedBy, added}
-use Rattle.open.specs.Files.{opened, UpToRows, IsRowText, afterAdded, addedRows, joined, AsOpened}
+use Rattle.open.specs.Files.{opened, UpToRows, IsRowText, RowTexts, afterAdded, addedRows, joined, AsOpened, inText, withoutClaim}
 use Rattle.open.proofs.Adding.{tried-open, line-refused, Lengths, filled-lengths, filled-again, still-long}
 use Rattle.open.proofs.Opened.{beginning-good, up-to-rows, IsOpened, opened-next, opened-as-judged, opened-judged}
 use Rattle.open.proofs.Opened.{placeIn, lines-more, beginning-more, opened-more, opened-stays}
@@ -65,16 +65,6 @@ row-follows claimed h = absurd (omega arith)
 abbrev pub inFile : File → ℕ → Outcome Body → Outcome File
 inFile f line (next b) = next (record { names = f .names; body = b; stage = in-rows; model = f .model; claim = f .claim })
 inFile f line (refused n l) = refused n line
-
--- 01's answer to a text that ends with a row on this line, by the answer to adding the row: there is no claim
-abbrev pub inText : ℕ → Ruling → Ruling
-inText line (accepted l) = turnedDown 13 (line + 1)
-inText line (turnedDown n l) = turnedDown n line
-
--- and its number
-abbrev pub withoutClaim : Ruling → ℕ
-withoutClaim (accepted l) = 13
-withoutClaim (turnedDown n l) = n
 
 place-line : (p : Place) (ls : List Bytes) → placeAfter p ls .line ≡ p .line + length ls
 place-line p [] = omega arith
@@ -131,7 +121,7 @@ module _ (lent : Lent) (text x : Bytes) (f : File) (o : IsOpened lent text f) (e
     one-opened =
         subst (λ (q : Outcome File). AsOpened q t (added t (countsOf (f .body)) x)) (sym opened-line)
         (subst (λ (q : Outcome Body). AsOpened (inFile f (placeIn text .line) (withLine (lineOf (row .line)) (f .body))) t (addedBy t (countsOf (f .body)) q))
-        (sym tried-line) (by-outcome (withLine (lineOf (row .line)) (f .body)) (line-refused (lineOf (row .line)) (f .body))))
+        (sym tried-line) (by-outcome (withLine (lineOf (row .line)) (f .body)) (λ n l e. line-refused (lineOf (row .line)) (f .body) n l e .1)))
       where
         by-outcome : (q : Outcome Body) → ((n l : ℕ) → q ≡ refused n l → l ≡ 1)
             → AsOpened (inFile f (placeIn text .line) q) t (addedBy t (countsOf (f .body)) q)
@@ -157,11 +147,6 @@ module _ (lent : Lent) (text x : Bytes) (f : File) (o : IsOpened lent text f) (e
         by-outcome (refused n l) e =
             opened-as-judged lent (text ++ x) n (placeIn text .line) e
             ∙ ap (turnedDown n) (place-line top (linesOf text .complete) ∙ omega arith)
-
--- every text of the list is a row's
-abbrev pub RowTexts : List Bytes → Type 0
-RowTexts [] = Unit {0}
-RowTexts (x ∷ xs) = IsRowText x × RowTexts xs
 
 -- the file has come no further than its rows
 abbrev Early : Outcome File → Type 0

@@ -67,6 +67,11 @@ pub record IsRowText (text : Bytes) : Type 0 where
   pub one : linesOf text ≡ record { complete = line ∷ []; rest = [] }
   pub kind : is "N" (getD (fieldsOf line) 0 []) ≡ true
 
+-- every text of the list is a row's
+abbrev pub RowTexts : List Bytes → Type 0
+RowTexts [] = Unit {0}
+RowTexts (x ∷ xs) = IsRowText x × RowTexts xs
+
 -- the second, where the first was accepted
 abbrev pub afterAdded : Ruling → Added → Added → Added
 afterAdded (accepted l) a b = b
@@ -85,3 +90,13 @@ joined xs = joinAll (λ (x : Bytes). x) xs
 abbrev pub AsOpened : Outcome File → Tables → Added → Type 0
 AsOpened (next f) t a = (a .ruling ≡ accepted 1) × (a .counts ≡ countsOf (f .body)) × (a .tables ≡ filled t (f .body))
 AsOpened (refused n l) t a = a .ruling ≡ turnedDown n 1
+
+-- 01's answer to a text that ends with a row on this line, by the answer to adding the row: there is no claim
+abbrev pub inText : ℕ → Ruling → Ruling
+inText line (accepted l) = turnedDown 13 (line + 1)
+inText line (turnedDown n l) = turnedDown n line
+
+-- and its number
+abbrev pub withoutClaim : Ruling → ℕ
+withoutClaim (accepted l) = 13
+withoutClaim (turnedDown n l) = n

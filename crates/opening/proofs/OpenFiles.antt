@@ -10,21 +10,11 @@ use Rattle.counts.specs.Counts.{countsOf}
 use Rattle.counts.specs.declared.Counts.{Counts}
 use Rattle.judge.specs.declared.Judged.{Judged}
 use Rattle.answers.specs.Answers.{filled as filledWith}
-use Rattle.bodies.specs.Open.{Tables, four, filled, IsOpen}
+use Rattle.bodies.specs.Open.{Tables, filled, IsOpen}
 use Rattle.open.specs.Files.{opened, openingContents, openingCounts}
 use Rattle.open.proofs.Adding.{lentWith, four-long}
 use Rattle.open.proofs.Opened.{opened-next, opened-zero, opened-open}
-use Rattle.opening.specs.Contract.{Opens}
-
--- the four tables of an open file among the five
-abbrev pub fourOf : Contents → Tables
-fourOf u = four (u .formulas) (u .rows) (u .left) (u .right)
-
--- what the tables hold is the file's body, in tables of the lengths that were lent
-pub record LeavesOpen (t : Tables) (u : Contents) (r : Judged) (f : File) : Type 0 where
-  pub tables : fourOf u ≡ filled t (f .body)
-  pub counts : r .counts ≡ countsOf (f .body)
-  pub is-open : IsOpen (fourOf u) (r .counts) (f .body)
+use Rattle.opening.specs.Contract.{Opens, fourOf, LeavesOpen}
 
 pub opens-open : (names : ℕ) (t : Tables) (text : Bytes) (u : Contents) (r : Judged) → Opens text (lentWith names t) u r → r .answer .number ≡ 0
     → (f : File) × (opened (lentWith names t) text ≡ next f) × LeavesOpen t u r f

@@ -4,6 +4,7 @@ use mathlib.Core.Path.{_≡_}
 use mathlib.Core.Bool.{Bool, true, false}
 use lib.Dec.{eqb, ltb}
 use Rattle.format.specs.Text.{Bytes}
+use Rattle.format.specs.File.{File}
 use Rattle.format.specs.Tables.{Contents, Lent}
 use Rattle.format.specs.Judged.{numberIn, lineIn}
 use Rattle.parts.specs.Refusals.{badLine}
@@ -11,6 +12,8 @@ use Rattle.run.specs.declared.Ran.{Ran}
 use Rattle.answers.specs.Answers.{answer, filled}
 use Rattle.answers.specs.declared.Answer.{Answer}
 use Rattle.judge.specs.declared.Judged.{Judged}
+use Rattle.counts.specs.Counts.{countsOf}
+use Rattle.bodies.specs.Open.{Tables, four, IsOpen, filled as filledBy}
 use Rattle.open.specs.Files.{opened, openingRuling, openingContents, openingCounts}
 
 -- by whether all complete lines passed, and bytes are left after them
@@ -30,3 +33,14 @@ pub record Opens (text : Bytes) (lent : Lent) (t : Contents) (r : Judged) : Type
   pub line : r .answer .line ≡ lineIn (openingRuling (opened lent text) text)
   pub counts : r .counts ≡ openingCounts (opened lent text)
   pub tables : t ≡ filled lent (openingContents (opened lent text))
+
+-- the four tables of an open file among the five
+abbrev pub fourOf : Contents → Tables
+fourOf u = four (u .formulas) (u .rows) (u .left) (u .right)
+
+-- What a beginning that is opened leaves, in tables of the lengths of these four: the open file of its body, with the counts that are
+-- answered.
+pub record LeavesOpen (t : Tables) (u : Contents) (r : Judged) (f : File) : Type 0 where
+  pub tables : fourOf u ≡ filledBy t (f .body)
+  pub counts : r .counts ≡ countsOf (f .body)
+  pub is-open : IsOpen (fourOf u) (r .counts) (f .body)
