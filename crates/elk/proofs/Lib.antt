@@ -1,5 +1,5 @@
 -- The laws of the calculus: soundness, completeness and the main theorem; the decision of instances, and rows that show
--- the table of rules to be 01's.
+-- the table of rules to be 01's; the rows by which a constraint joins.
 pub mod Sides
 pub mod Rising
 pub mod RisingAtoms
@@ -21,3 +21,4 @@ pub mod Exchanging
 pub mod Decision
 pub mod Rows
 pub mod Faithful
+pub mod Constraints

@@ -7,7 +7,7 @@ use mathlib.Core.Logic.{inl, inr, ⊎-elim, dite}
 use Rattle.equilibrium.specs.Formula.{Formula, falsum, atom, neg, conj, disj, imp}
 use Rattle.equilibrium.specs.Meaning.{_∈_, _⊆_, Holds, AllHold, NoneHolds}
 use Rattle.equilibrium.proofs.Sets.{≈-refl, ≈-sym}
-use Rattle.equilibrium.proofs.Satisfaction.{persists, holds?}
+use Rattle.equilibrium.proofs.Satisfaction.{persists, holds?, all-head, all-tail, none-head, none-tail}
 use Rattle.elk.specs.Sequent.{Sequent, _⨾_}
 use Rattle.elk.specs.Rules.{Rule, Fits, Added, Entry, schema, default, cut, unstable, initial, exchange, entry, xnnl, xnnr, xandl, xandr1}
 use Rattle.elk.specs.Rules.{xandr2, xorr, xorl1, xorl2, ximpl1, ximpl2, ximpl3, ximpr1, ximpr2, xnimpl, xnimpr1, xnimpr2}
@@ -17,7 +17,7 @@ use Rattle.elk.specs.Instance.{meant, filled, LeftLiteral, left-atom, le
 use Rattle.elk.proofs.Sides.{cons-middle}
 use Rattle.elk.proofs.Steps.{All, formOf, Keeps}
 use Rattle.elk.proofs.Derivable.{Derivable, derivable-same, by-rule, by-initial}
-use Rattle.elk.proofs.Validity.{Refutable, all-head, all-tail, none-head, none-tail}
+use Rattle.elk.proofs.Validity.{Refutable}
 
 module _ (H T : List ℕ) where
   -- literals that may be added on the left, and on the right

@@ -1,10 +1,17 @@
 -- Laws of lists read as sets, for the sides of sequents and for sets of atoms: order and repetition never count.
-use mathlib.Core.List.{List, [], _∷_, _++_, List·Memᴰ·head, List·Memᴰ·tail, Memᴰ·cast, Memᴰ·append-left, List·Memᴰ·append-cases}
+use mathlib.Core.Path.{refl}
+use mathlib.Core.List.{List, [], _∷_, _++_, List·Memᴰ·head, List·Memᴰ·tail, List·Memᴰ·not-nil, List·Memᴰ·append-cases, Memᴰ·cast, Memᴰ·append-left}
 use mathlib.Core.Logic.{⊎-elim, dite}
 use Rattle.equilibrium.specs.Meaning.{_∈_, _⊆_, _≈_}
 use Rattle.equilibrium.proofs.Sets.{≈-refl, ≈-trans, ≈-cons, dec-not, dec-some}
 
 module _ {X : Type 0} where
+  pub nothing : {xs : List X} → [] ⊆ xs
+  nothing x m = absurd (List·Memᴰ·not-nil m)
+
+  pub first : {x : X} {xs : List X} → x ∈ x ∷ xs
+  first = List·Memᴰ·head refl
+
   again-part : {x : X} {xs : List X} → x ∈ xs → x ∷ xs ⊆ xs
   again-part m y (List·Memᴰ·head e) = Memᴰ·cast e m
   again-part m y (List·Memᴰ·tail k) = k

@@ -12,8 +12,8 @@ use mathlib.Core.Logic.{inl, ⊎-elim, _↔_, Dec·not-not}
 use Rattle.equilibrium.specs.Formula.{Formula, atom, neg, atomsOf, atomsIn}
 use Rattle.equilibrium.specs.Meaning.{_⊆_, _≈_, _∈_, Holds, AllHold, Equilibrium, Entails, Equal}
 use Rattle.equilibrium.proofs.Sets.{dec-in, those, in-those}
-use Rattle.equilibrium.proofs.Satisfaction.{all-agree}
-use Rattle.equilibrium.proofs.Models.{only-occurring}
+use Rattle.equilibrium.proofs.Satisfaction.{all-cons, all-head, all-tail, some-head, some-cases, all-agree}
+use Rattle.equilibrium.proofs.Models.{carry, keep, only-occurring}
 use Rattle.elk.specs.Sequent.{Sequent, AllSame}
 use Rattle.elk.specs.Rules.{Rule, Fits, Entry, schema, default, cut, unstable, initial, exchange, entry}
 use Rattle.elk.specs.Instance.{Choice, domain, chosen, literal, fixed, excluded-middle, joined, LeftLiteral, left-atom, left-negated}
@@ -21,7 +21,7 @@ use Rattle.elk.specs.Instance.{left-verum, RightLiteral, right-atom, rig
 use Rattle.elk.specs.Derivation.{Derivation, row, DerivableBy, EndsIn}
 use Rattle.elk.proofs.Choices.{in-domain, in-chosen, joined-each}
 use Rattle.elk.proofs.Steps.{same-sym, All, formOf, Keeps}
-use Rattle.elk.proofs.Validity.{Refutable, Valid, valid-same, carry, all-cons, all-head, all-tail, some-head, some-cases, keep}
+use Rattle.elk.proofs.Validity.{Refutable, Valid, valid-same}
 use Rattle.elk.proofs.TableSoundness.{table-sound}
 
 -- the atoms of a list of atoms are its members

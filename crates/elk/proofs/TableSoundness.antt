@@ -5,14 +5,14 @@ use mathlib.Core.List.{List, _∷_}
 use mathlib.Core.Logic.{inl, inr, ⊎-elim, dite, Dec·not-not}
 use Rattle.equilibrium.specs.Formula.{Formula, neg, conj, disj, imp}
 use Rattle.equilibrium.specs.Meaning.{Holds, AllHold, NoneHolds, SomeHolds, Entails}
-use Rattle.equilibrium.proofs.Satisfaction.{persists, holds?}
+use Rattle.equilibrium.proofs.Satisfaction.{persists, holds?, all-cons, all-head, all-tail, none-cons, none-head, none-tail, some-head, some-tail, some-cases}
+use Rattle.equilibrium.proofs.Models.{carry, keep}
 use Rattle.elk.specs.Rules.{Rule, def, same, andl, andr, wr, bot, orr, orl, notl, impr, impl, notr, rcut, unst, xini, xnnl, xnnr, xandl}
 use Rattle.elk.specs.Rules.{xandr1, xandr2, xorr, xorl1, xorl2, ximpl1, ximpl2, ximpl3, ximpr1, ximpr2, xnimpl, xnimpr1, xnimpr2, xnandl1}
 use Rattle.elk.specs.Rules.{xnandl2, xnandr, xnorl, xnorr1, xnorr2, swap, Fits, is-any, is-falsity, is-negation, is-conjunction, is-disjunction}
 use Rattle.elk.specs.Rules.{is-implication, is-double-negation, is-negated-conjunction, is-negated-disjunction, is-negated-implication, entry}
 use Rattle.elk.proofs.Steps.{formOf, Keeps}
-use Rattle.elk.proofs.Validity.{Refutable, Valid, carry, all-cons, all-head, all-tail, none-cons}
-use Rattle.elk.proofs.Validity.{none-head, none-tail, some-head, some-tail, some-cases, keep}
+use Rattle.elk.proofs.Validity.{Refutable, Valid}
 
 -- one of R, since it is not A
 others : {T : List ℕ} {A : Formula} {R : List Formula} → (Holds T T A → ⊥) → SomeHolds T (A ∷ R) → SomeHolds T R

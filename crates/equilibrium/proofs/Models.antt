@@ -1,12 +1,12 @@
--- Equilibrium models and entailment: they see T as a set, hold only atoms that occur, and are decided.
+-- Equilibrium models and entailment: they see the sheet and T as sets, hold only atoms that occur, and are decided.
 use Prim.Native.Nat.{ℕ}
-use mathlib.Core.List.{List}
+use mathlib.Core.List.{List, _∷_}
 use mathlib.Core.Logic.{_⊎_, inl, inr, ⊎-elim, _↔_}
 use native.Mathlib.Decide.{ℕ-discrete}
 use Rattle.equilibrium.specs.Formula.{Formula, atomsIn}
-use Rattle.equilibrium.specs.Meaning.{_∈_, _⊆_, _≈_, AllHold, SomeHolds, Equilibrium, Entails, EntailsOver, Fails}
+use Rattle.equilibrium.specs.Meaning.{_∈_, _⊆_, _≈_, Holds, AllHold, SomeHolds, Equilibrium, Entails, EntailsOver, Fails}
 use Rattle.equilibrium.proofs.Sets.{dec-not, dec-and, dec-in, dec-part, dec-map, those, in-those, search-parts}
-use Rattle.equilibrium.proofs.Satisfaction.{all-hold?, some-holds?, none-holds, same-agree, all-agree, some-agree}
+use Rattle.equilibrium.proofs.Satisfaction.{all-hold?, some-holds?, none-holds, all-cons, all-tail, same-agree, all-agree, some-agree}
 
 -- a pair (H,T) with H properly inside T that satisfies L: what keeps T from being in equilibrium
 abbrev pub Smaller : List Formula → List ℕ → Type 0
@@ -27,7 +27,19 @@ unfoldable pub equilibrium? : (L : List Formula) (T : List ℕ) → Dec (Equilib
 unfolding dec-map dec-and dec-not all-hold? smaller?
 equilibrium? L T = dec-map (equilibrium-iff .1) (equilibrium-iff .0) (dec-and (all-hold? T T L) (dec-not (smaller? L T)))
 
--- being in equilibrium is a matter of T as a set
+-- if T is an equilibrium model of L, (T,T) satisfies M, and each (H,T) that satisfies M satisfies L, then T is one of M
+pub carry : {L M : List Formula} {T : List ℕ} → AllHold T T M → ((H : List ℕ) → H ⊆ T → AllHold H T M → AllHold H T L) → Equilibrium L T → Equilibrium M T
+carry m back e = record { model = m; least = λ H s p h. e .least H s p (back H s h) }
+
+-- adding a formula that T satisfies keeps T
+pub keep : {L : List Formula} {T : List ℕ} {A : Formula} → Holds T T A → Equilibrium L T → Equilibrium (A ∷ L) T
+keep a e = carry (all-cons a (e .model)) (λ H s h. all-tail h) e
+
+-- being in equilibrium is a matter of the sheet as a set
+pub sheet-same : {L M : List Formula} {T : List ℕ} → L ≈ M → Equilibrium L T → Equilibrium M T
+sheet-same s e = carry (λ A m. e .model A (s .1 A m)) (λ H i h A m. h A (s .0 A m)) e
+
+-- and of T as one
 pub equilibrium-same : {L : List Formula} {T U : List ℕ} → T ≈ U → Equilibrium L T → Equilibrium L U
 equilibrium-same {L} {T} {U} e q =
     record {

@@ -1,7 +1,7 @@
 -- Satisfaction: it persists from H to T, is decided, and depends on H and T only at the atoms that occur.
 use Prim.Native.Nat.{ℕ}
 use mathlib.Core.Path.{_≡_, refl}
-use mathlib.Core.List.{List, [], _∷_, List·Memᴰ·head, Memᴰ·append-left, Memᴰ·append-right, List·Memᴰ·not-nil, List·Memᴰ·cases-cons}
+use mathlib.Core.List.{List, [], _∷_, List·Memᴰ·head, List·Memᴰ·tail, List·Memᴰ·not-nil, List·Memᴰ·cases-cons, Memᴰ·append-left, Memᴰ·append-right}
 use mathlib.Core.Logic.{_⊎_, inl, inr, ⊎-elim, _↔_}
 use native.Mathlib.Decide.{ℕ-discrete}
 use Rattle.equilibrium.specs.Formula.{Formula, falsum, atom, neg, conj, disj, imp, atomsOf, atomsIn}
@@ -36,6 +36,39 @@ some-holds? T R = dec-some (holds? T T) R
 
 pub none-holds : {T : List ℕ} {R : List Formula} → (SomeHolds T R → ⊥) → NoneHolds T T R
 none-holds n A m h = n (A, m, h)
+
+-- Satisfaction of one formula more.
+module _ {H T : List ℕ} {A : Formula} where
+  pub all-cons : {L : List Formula} → Holds H T A → AllHold H T L → AllHold H T (A ∷ L)
+  all-cons a l B (List·Memᴰ·head e) = rw e a
+  all-cons a l B (List·Memᴰ·tail m) = l B m
+
+  pub all-head : {L : List Formula} → AllHold H T (A ∷ L) → Holds H T A
+  all-head h = h A (List·Memᴰ·head refl)
+
+  pub all-tail : {L : List Formula} → AllHold H T (A ∷ L) → AllHold H T L
+  all-tail h B m = h B (List·Memᴰ·tail m)
+
+  pub none-cons : {R : List Formula} → (Holds H T A → ⊥) → NoneHolds H T R → NoneHolds H T (A ∷ R)
+  none-cons n r B (List·Memᴰ·head e) = rw e n
+  none-cons n r B (List·Memᴰ·tail m) = r B m
+
+  pub none-head : {R : List Formula} → NoneHolds H T (A ∷ R) → Holds H T A → ⊥
+  none-head n = n A (List·Memᴰ·head refl)
+
+  pub none-tail : {R : List Formula} → NoneHolds H T (A ∷ R) → NoneHolds H T R
+  none-tail n B m = n B (List·Memᴰ·tail m)
+
+module _ {T : List ℕ} {A : Formula} {R : List Formula} where
+  pub some-head : Holds T T A → SomeHolds T (A ∷ R)
+  some-head h = (A, List·Memᴰ·head refl, h)
+
+  pub some-tail : SomeHolds T R → SomeHolds T (A ∷ R)
+  some-tail s = (s .0, List·Memᴰ·tail (s .1), s .2)
+
+  pub some-cases : SomeHolds T (A ∷ R) → Holds T T A ⊎ SomeHolds T R
+  some-cases (B, List·Memᴰ·head e, h) = inl (rw e at h)
+  some-cases (B, List·Memᴰ·tail m, h) = inr (B, m, h)
 
 -- X and Y have the same members among those of U
 abbrev pub Agree : List ℕ → List ℕ → List ℕ → Type 0

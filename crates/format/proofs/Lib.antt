@@ -12,6 +12,7 @@ pub mod Formulas
 pub mod Decoded
 pub mod Beginnings
 pub mod Accepted
+pub mod Constraints
 pub mod Examples
 pub mod Joined
 pub mod Sides

@@ -9,7 +9,7 @@ use lib.ListN.{length}
 use borrow.Author.Tests.{ltb-false, le-ltb}
 use Rattle.equilibrium.specs.Formula.{Formula}
 use Rattle.equilibrium.specs.Meaning.{_≈_, Holds, Entails}
-use Rattle.equilibrium.proofs.Models.{equilibrium?}
+use Rattle.equilibrium.proofs.Models.{equilibrium?, sheet-same}
 use Rattle.format.specs.Tests.{first}
 use Rattle.format.specs.Model.{contradiction?, mostInModel, modelTests, ModelFits, model-fits, none-wanted}
 use Rattle.format.specs.Model.{Shown, model-shown, contradiction-shown}
@@ -43,7 +43,5 @@ module _ (L R : List Formula) where
 
 -- whether a model fits is a matter of the two sides as sets
 pub fits-same : {L M R S : List Formula} {m : Option (List ℕ)} → L ≈ M → R ≈ S → ModelFits L R m → ModelFits M S m
-fits-same l r (model-fits wanted few e) =
-    model-fits (λ c. wanted (λ A i. c A (r .0 A i))) few
-    (record { model = λ A i. e .model A (l .1 A i); least = λ H s p a. e .least H s p (λ A i. a A (l .0 A i)) })
+fits-same l r (model-fits wanted few e) = model-fits (λ c. wanted (λ A i. c A (r .0 A i))) few (sheet-same l e)
 fits-same l r (none-wanted c) = none-wanted (λ A i. c A (r .1 A i))

@@ -11,3 +11,4 @@ pub mod Written
 pub mod Document
 pub mod Transcript
 pub mod Same
+pub mod Constraints
