@@ -10,8 +10,8 @@ use Rattle.elk.specs.Sequent.{Kind, Sequent, _⇒_}
 use Rattle.elk.specs.Rules.{wr, same, bot, notl, impl, rules, Fits, is-any, is-falsity, is-negation, is-implication, Schema}
 use Rattle.elk.specs.Instance.{meant, filled, SchemaInstance}
 use Rattle.elk.specs.Derivation.{Derivation, row}
-use Rattle.elk.specs.Constraints.{between, ConstraintsJoin, ConstraintsDerived}
-use Rattle.elk.proofs.Sides.{nothing, first}
+use Rattle.elk.specs.Constraints.{between, ConstraintRows, ConstraintsDerived}
+use Rattle.elk.proofs.Sides.{nil-part, first-in}
 use Rattle.elk.proofs.RuleCodes.{every-rule}
 use Rattle.elk.proofs.Steps.{same-refl, all-same-refl}
 use Rattle.elk.proofs.CommonSets.{every-cons}
@@ -26,27 +26,27 @@ step {t} {F} {G} {H} f L R =
 module _ {rows : List Sequent} {L R : List Formula} where
   -- A as one more on the right
   with-right : {A : Formula} → (L ⇒ R) ∈ rows → Derivation rules rows → Derivation rules ((L ⇒ A ∷ R) ∷ rows)
-  with-right {A} m d = row d wr (every-rule wr) (some A) ((L ⇒ R) ∷ []) (every-cons .1 (m, nothing)) (step is-any L R)
+  with-right {A} m d = row d wr (every-rule wr) (some A) ((L ⇒ R) ∷ []) (every-cons .1 (m, nil-part)) (step is-any L R)
 
   -- anything on the right of #
   from-falsum : Derivation rules rows → Derivation rules ((falsum ∷ L ⇒ R) ∷ (falsum ∷ L ⇒ falsum ∷ R) ∷ rows)
   from-falsum d =
-      let initial = row d same (every-rule same) (some falsum) [] nothing (step is-any L R) in
-      row initial bot (every-rule bot) (some falsum) ((falsum ∷ L ⇒ falsum ∷ R) ∷ []) (every-cons .1 (first, nothing)) (step is-falsity (falsum ∷ L) R)
+      let initial = row d same (every-rule same) (some falsum) [] nil-part (step is-any L R) in
+      row initial bot (every-rule bot) (some falsum) ((falsum ∷ L ⇒ falsum ∷ R) ∷ []) (every-cons .1 (first-in, nil-part)) (step is-falsity (falsum ∷ L) R)
 
-pub constraints-join : ConstraintsJoin
-constraints-join A C negated L R rows m d =
-    row (with-right m d) notl (every-rule notl) (some (neg A)) ((L ⇒ A ∷ R) ∷ []) (every-cons .1 (first, nothing)) (step is-negation L R)
-constraints-join A C falsum-follows L R rows m d =
+pub constraint-rows : ConstraintRows
+constraint-rows A C negated L R rows m d =
+    row (with-right m d) notl (every-rule notl) (some (neg A)) ((L ⇒ A ∷ R) ∷ []) (every-cons .1 (first-in, nil-part)) (step is-negation L R)
+constraint-rows A C falsum-follows L R rows m d =
     row (from-falsum (with-right m d)) impl (every-rule impl) (some (imp A falsum)) ((falsum ∷ L ⇒ neg A ∷ R) ∷ (L ⇒ A ∷ R) ∷ [])
-    (every-cons .1 (first, every-cons .1 (List·Memᴰ·tail (List·Memᴰ·tail first), nothing))) (step is-implication L R)
+    (every-cons .1 (first-in, every-cons .1 (List·Memᴰ·tail (List·Memᴰ·tail first-in), nil-part))) (step is-implication L R)
 
 pub constraints-derived : ConstraintsDerived
 constraints-derived A C k L R e =
     record {
       last = C ∷ P ⇒ Q;
       earlier = between k P Q ++ rows;
-      derivation = constraints-join A C k P Q rows there (e .derivation);
+      derivation = constraint-rows A C k P Q rows there (e .derivation);
       ends = record { kind = refl; left = ≈-cons (e .ends .left); right = e .ends .right };
     }
   where
@@ -60,4 +60,4 @@ constraints-derived A C k L R e =
     rows = e .last ∷ e .earlier
 
     there : (P ⇒ Q) ∈ rows
-    there = subst (λ (kind : Kind). record { kind = kind; left = P; right = Q } ∈ rows) (e .ends .kind) first
+    there = subst (λ (kind : Kind). record { kind = kind; left = P; right = Q } ∈ rows) (e .ends .kind) first-in

@@ -2,7 +2,7 @@
 -- test, and 01's whole file is a derivation of its claim. No two rules have one word.
 use mathlib.Core.Path.{_≡_, refl, _∙_, ap₂}
 use mathlib.Core.Bool.{Bool, true, false}
-use mathlib.Core.List.{List, [], _∷_, map, map-map, List·Memᴰ·tail}
+use mathlib.Core.List.{List, [], _∷_, map, map-map}
 use mathlib.Core.Option.{Option, none, some, IsSome}
 use mathlib.Core.Logic.{_↔_}
 use native.Mathlib.Decide.{ℕ-discrete}
@@ -16,7 +16,7 @@ use Rattle.elk.specs.Rules.{Rule, Entry, schema, default, cut, unstable,
 use Rattle.elk.specs.Instance.{Exchanged, InstanceOf, Instance, TooManyAtomsOf, TooManyAtoms}
 use Rattle.elk.specs.Derivation.{Derivation, start, row, EndsIn}
 use Rattle.elk.proofs.RuleCodes.{rule-at-code, every-rule}
-use Rattle.elk.proofs.Sides.{nothing, first}
+use Rattle.elk.proofs.Sides.{nil-part, first-in, second-in}
 use Rattle.elk.proofs.CommonSets.{every-cons}
 use Rattle.elk.proofs.Decision.{instance?, too-many-atoms?}
 use Rattle.elk.proofs.Rows.{Row, instances, near-misses, too-wide, not-too-wide, whole-file, #, ~_, _->_, a}
@@ -116,7 +116,7 @@ Linked (r ∷ rs) = (r .premises ⊆ map (λ q. q .conclusion) rs) × Linked rs
 derived : (rs : List Row) → Linked rs → ((r : Row) → r ∈ rs → IsInstance r) → Derivation rules (map (λ r. r .conclusion) rs)
 derived [] l h = start
 derived (r ∷ rs) l h =
-    row (derived rs (l .1) (every-cons .0 h .1)) (r .rule) (every-rule (r .rule)) (r .principal) (r .premises) (l .0) (h r first)
+    row (derived rs (l .1) (every-cons .0 h .1)) (r .rule) (every-rule (r .rule)) (r .principal) (r .premises) (l .0) (h r first-in)
 
 -- 01's whole file ends in its claim ~p->p => #
 pub whole-file-derives : EndsIn (~ a -> a ∷ []) (# ∷ [])
@@ -126,8 +126,8 @@ whole-file-derives = record {
   earlier = _;
   derivation =
       derived whole-file (
-        every-cons .1 (List·Memᴰ·tail first, every-cons .1 (first, nothing)),
-        (nothing, (every-cons .1 (first, nothing), (every-cons .1 (first, nothing), (nothing, tt)))),
+        every-cons .1 (second-in, every-cons .1 (first-in, nil-part)),
+        (nil-part, (every-cons .1 (first-in, nil-part), (every-cons .1 (first-in, nil-part), (nil-part, tt)))),
       ) (from-yes (dec-all is-instance? whole-file) tt);
   ends = record { kind = refl; left = ≈-refl; right = ≈-refl };
 }

@@ -6,11 +6,14 @@ use Rattle.equilibrium.specs.Meaning.{_∈_, _⊆_, _≈_}
 use Rattle.equilibrium.proofs.Sets.{≈-refl, ≈-trans, ≈-cons, dec-not, dec-some}
 
 module _ {X : Type 0} where
-  pub nothing : {xs : List X} → [] ⊆ xs
-  nothing x m = absurd (List·Memᴰ·not-nil m)
+  pub nil-part : {xs : List X} → [] ⊆ xs
+  nil-part x m = absurd (List·Memᴰ·not-nil m)
 
-  pub first : {x : X} {xs : List X} → x ∈ x ∷ xs
-  first = List·Memᴰ·head refl
+  pub first-in : {x : X} {xs : List X} → x ∈ x ∷ xs
+  first-in = List·Memᴰ·head refl
+
+  pub second-in : {x y : X} {xs : List X} → x ∈ y ∷ x ∷ xs
+  second-in = List·Memᴰ·tail first-in
 
   again-part : {x : X} {xs : List X} → x ∈ xs → x ∷ xs ⊆ xs
   again-part m y (List·Memᴰ·head e) = Memᴰ·cast e m

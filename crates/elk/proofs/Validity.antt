@@ -5,8 +5,7 @@ use mathlib.Core.Path.{subst}
 use mathlib.Core.List.{List}
 use Rattle.equilibrium.specs.Formula.{Formula}
 use Rattle.equilibrium.specs.Meaning.{_⊆_, _≈_, AllHold, NoneHolds, Entails}
-use Rattle.equilibrium.proofs.Sets.{≈-sym}
-use Rattle.equilibrium.proofs.Models.{sheet-same}
+use Rattle.equilibrium.proofs.Models.{entails-same}
 use Rattle.elk.specs.Sequent.{Kind, elk, refutation, Sequent, Same}
 
 -- some pair (H,T), H inside T, satisfies all of L and none of R
@@ -26,7 +25,7 @@ abbrev pub Valid : Sequent → Type 0
 Valid s = Claims (s .kind) (s .left) (s .right)
 
 claims-same : (k : Kind) {L M R S : List Formula} → L ≈ M → R ≈ S → Claims k L R → Claims k M S
-claims-same elk l r v = λ T e. let s = v T (sheet-same (≈-sym l) e) in (s .0, r .0 (s .0) (s .1), s .2)
+claims-same elk l r v = entails-same l r v
 claims-same refutation l r v = record { H = v .H; T = v .T; inside = v .inside; left = λ A m. v .left A (l .1 A m); right = λ A m. v .right A (r .1 A m) }
 
 pub valid-same : {s t : Sequent} → Same s t → Valid s → Valid t

@@ -8,15 +8,15 @@ use Rattle.elk.specs.Sequent.{Sequent, _⇒_}
 use Rattle.elk.specs.Rules.{rules}
 use Rattle.elk.specs.Derivation.{Derivation, EndsIn}
 
--- The rows on the way, the last one first. To L,~A => R: `wr` adds A on the right, from where `notl` goes on. To L,A-># => R: `wr`
--- likewise; `same` and `bot`, as with # on the left anything may stand right; from these two `impl` goes on.
+-- The rows on the way, the last one first. To L,~A => R: `wr` adds A on the right, and `notl` goes on from there. To L,A-># => R: `wr`
+-- likewise; then `same` and `bot`, as with # on the left anything may stand right; and `impl` goes on from the rows of `bot` and `wr`.
 abbrev pub between : {A C : Formula} → Constraint A C → List Formula → List Formula → List Sequent
 between {A} negated L R = (L ⇒ A ∷ R) ∷ []
 between {A} falsum-follows L R = (falsum ∷ L ⇒ neg A ∷ R) ∷ (falsum ∷ L ⇒ falsum ∷ neg A ∷ R) ∷ (L ⇒ A ∷ R) ∷ []
 
 -- a derivation with L => R among its rows goes on with these, and then with the constraint on the left
-abbrev pub ConstraintsJoin : Type 0
-ConstraintsJoin =
+abbrev pub ConstraintRows : Type 0
+ConstraintRows =
     (A C : Formula) (k : Constraint A C) (L R : List Formula) (rows : List Sequent)
     → (L ⇒ R) ∈ rows → Derivation rules rows → Derivation rules ((C ∷ L ⇒ R) ∷ between k L R ++ rows)
 

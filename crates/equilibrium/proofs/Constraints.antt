@@ -1,12 +1,15 @@
--- Constraints only sharpen, and a fact does not.
+-- Constraints only sharpen. Facts do not, and a constraint can leave no model.
 use Prim.Native.Nat.{ℕ}
-use mathlib.Core.List.{List, _∷_}
+use mathlib.Core.List.{List, [], _∷_}
 use mathlib.Core.Logic.{_↔_}
-use Rattle.equilibrium.specs.Formula.{Formula}
+use native.Mathlib.Decide.{ℕ-discrete}
+use Rattle.equilibrium.specs.Formula.{Formula, neg}
 use Rattle.equilibrium.specs.Meaning.{_⊆_, Holds, Equilibrium}
-use Rattle.equilibrium.specs.Constraints.{Constraint, negated, falsum-follows, ModelsKept, ConstraintsSharpen, FactTakesBack}
+use Rattle.equilibrium.specs.Examples.{a}
+use Rattle.equilibrium.specs.Constraints.{Constraint, negated, falsum-follows, ModelsKept, ConstraintsSharpen, FactTakesBack, ConstraintLeavesNone}
+use Rattle.equilibrium.proofs.Sets.{from-yes}
 use Rattle.equilibrium.proofs.Satisfaction.{persists, all-cons, all-head, all-tail}
-use Rattle.equilibrium.proofs.Models.{carry, keep}
+use Rattle.equilibrium.proofs.Models.{carry, keep, equilibrium?}
 use Rattle.equilibrium.proofs.Examples.{default-holds, no-weakening-left}
 
 -- a constraint holds in (H,T), H inside T, exactly if A fails in (T,T): it cannot tell H from T
@@ -27,3 +30,10 @@ constraints-sharpen A C k L R entailed T e = entailed T (models-kept A C k L T .
 
 pub fact-takes-back : FactTakesBack
 fact-takes-back = (default-holds, no-weakening-left)
+
+pub constraint-leaves-none : ConstraintLeavesNone
+unfolding equilibrium? ℕ-discrete
+constraint-leaves-none = (
+  from-yes (equilibrium? (a ∷ []) (0 ∷ [])) tt,
+  λ T e. let kept = models-kept a (neg a) negated (a ∷ []) T .1 e in kept .1 (all-head (kept .0 .model)),
+)

@@ -1,11 +1,11 @@
--- Equilibrium models and entailment: they see the sheet and T as sets, hold only atoms that occur, and are decided.
+-- Equilibrium models and entailment: they see sheet, claim and T as sets, hold only atoms that occur, and are decided.
 use Prim.Native.Nat.{ℕ}
 use mathlib.Core.List.{List, _∷_}
 use mathlib.Core.Logic.{_⊎_, inl, inr, ⊎-elim, _↔_}
 use native.Mathlib.Decide.{ℕ-discrete}
 use Rattle.equilibrium.specs.Formula.{Formula, atomsIn}
 use Rattle.equilibrium.specs.Meaning.{_∈_, _⊆_, _≈_, Holds, AllHold, SomeHolds, Equilibrium, Entails, EntailsOver, Fails}
-use Rattle.equilibrium.proofs.Sets.{dec-not, dec-and, dec-in, dec-part, dec-map, those, in-those, search-parts}
+use Rattle.equilibrium.proofs.Sets.{≈-sym, dec-not, dec-and, dec-in, dec-part, dec-map, those, in-those, search-parts}
 use Rattle.equilibrium.proofs.Satisfaction.{all-hold?, some-holds?, none-holds, all-cons, all-tail, same-agree, all-agree, some-agree}
 
 -- a pair (H,T) with H properly inside T that satisfies L: what keeps T from being in equilibrium
@@ -39,7 +39,7 @@ keep a e = carry (all-cons a (e .model)) (λ H s h. all-tail h) e
 pub sheet-same : {L M : List Formula} {T : List ℕ} → L ≈ M → Equilibrium L T → Equilibrium M T
 sheet-same s e = carry (λ A m. e .model A (s .1 A m)) (λ H i h A m. h A (s .0 A m)) e
 
--- and of T as one
+-- and of T as a set
 pub equilibrium-same : {L : List Formula} {T U : List ℕ} → T ≈ U → Equilibrium L T → Equilibrium L U
 equilibrium-same {L} {T} {U} e q =
     record {
@@ -67,6 +67,10 @@ only-occurring {L} {T} e p m = cases (dec-part ℕ-discrete T H)
 -- entailment over any finite set of atoms that holds those that occur is entailment
 pub entails-over : {U : List ℕ} {L R : List Formula} → atomsIn L ⊆ U → Entails L R ↔ EntailsOver U L R
 entails-over s = (λ f T t e. f T e, λ f T e. f T (λ p m. s p (only-occurring e p m)) e)
+
+-- and it is a matter of sheet and claim as sets
+pub entails-same : {L M R S : List Formula} → L ≈ M → R ≈ S → Entails L R → Entails M S
+entails-same l r f T e = let s = f T (sheet-same (≈-sym l) e) in (s .0, r .0 (s .0) (s .1), s .2)
 
 -- a claim holds or fails, and never both
 unfoldable pub fails? : (L R : List Formula) → Fails L R ⊎ Entails L R

@@ -1,5 +1,5 @@
 -- Constraints only sharpen (paper 02, M-106): which equilibrium models a sheet keeps when `~A` or `A->#` joins it, and what it
--- then still entails. Of facts the like would be false.
+-- then still entails. Of facts the like would be false, and a sheet need not keep a model.
 use Prim.Native.Nat.{ℕ}
 use mathlib.Core.List.{List, [], _∷_}
 use mathlib.Core.Logic.{_↔_}
@@ -23,3 +23,7 @@ ConstraintsSharpen = (A C : Formula) → Constraint A C → (L R : List Formula)
 -- a fact can take a claim back: => ~a holds, and fails once a joins the sheet
 abbrev pub FactTakesBack : Type 0
 FactTakesBack = Entails [] (neg a ∷ []) × Fails (a ∷ []) (neg a ∷ [])
+
+-- a constraint can leave no model: {a} is one of the sheet a, and with ~a there is none
+abbrev pub ConstraintLeavesNone : Type 0
+ConstraintLeavesNone = Equilibrium (a ∷ []) (0 ∷ []) × ((T : List ℕ) → Equilibrium (neg a ∷ a ∷ []) T → ⊥)

@@ -35,6 +35,10 @@ pub no-iff : {X : Type 0} (d : Dec X) → (isNo d ≡ false) ↔ X
 no-iff (yes x) = (λ e. x, λ x. refl)
 no-iff (no n) = (λ e. absurd (true≢false e), λ x. absurd (n x))
 
+pub is-no : {X : Type 0} (d : Dec X) → (X → ⊥) → isNo d ≡ true
+is-no (yes x) n = absurd (n x)
+is-no (no k) n = refl
+
 pub yes-iff : {X : Type 0} (d : Dec X) → (not (isNo d) ≡ false) ↔ (X → ⊥)
 yes-iff (yes x) = (λ e. absurd (true≢false e), λ n. absurd (n x))
 yes-iff (no n) = (λ e. n, λ k. refl)

@@ -14,6 +14,7 @@ use borrow.Author.Tests.{lt-leb}
 use Rattle.equilibrium.specs.Formula.{Formula, falsum, atom, neg, conj, disj, imp, atomsOf, atomsIn}
 use Rattle.equilibrium.specs.Meaning.{_∈_, _⊆_, _≈_}
 use Rattle.equilibrium.proofs.Sets.{dec-in}
+use Rattle.elk.proofs.Sides.{first-in, second-in}
 use Rattle.elk.proofs.Equality.{formula-discrete}
 use Rattle.format.specs.File.{Node, Body, formulaAt, formulaOf, formulas, decodedAt}
 use Rattle.format.specs.Tables.{mostAtoms, mostFormulas}
@@ -23,13 +24,6 @@ use Rattle.format.specs.Transcript.{subformulas, subformulasIn}
 use Rattle.format.proofs.GoodBodies.{Distinct, distinct-snoc}
 use Rattle.format.proofs.Enough.{node-enough}
 use Rattle.format.proofs.Formulas.{formulas-snoc, length-formulas, nodeFrom, position, position-among}
-
-module _ {X : Type 0} where
-  first-in : {x : X} {xs : List X} → x ∈ x ∷ xs
-  first-in = List·Memᴰ·head refl
-
-  second-in : {x y : X} {xs : List X} → x ∈ y ∷ x ∷ xs
-  second-in = List·Memᴰ·tail first-in
 
 -- ---- the list
 
