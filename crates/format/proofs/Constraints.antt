@@ -1,7 +1,7 @@
 -- Constraints that join the sheet of an accepted text: its claim is entailed as before, and its M line serves as long as its model
 -- does not satisfy what is shut out.
 use Prim.Native.Nat.{ℕ}
-use mathlib.Core.Path.{_≡_, sym, subst₂}
+use mathlib.Core.Path.{sym, subst₂}
 use mathlib.Core.List.{List, _∷_}
 use mathlib.Core.Option.{Option, none, some}
 use mathlib.Core.Logic.{_↔_}
@@ -13,8 +13,7 @@ use Rattle.equilibrium.specs.Constraints.{Constraint}
 use Rattle.equilibrium.proofs.Models.{equilibrium?, entails-iff}
 use Rattle.equilibrium.proofs.Constraints.{models-kept, constraints-sharpen}
 use Rattle.format.specs.File.{decoded}
-use Rattle.format.specs.Tests.{first}
-use Rattle.format.specs.Model.{contradiction?, mostInModel, modelTests, ModelFits, model-fits, none-wanted}
+use Rattle.format.specs.Model.{contradiction?, mostInModel, ModelFits, model-fits, none-wanted}
 use Rattle.format.specs.Model.{Shown, model-shown, contradiction-shown}
 use Rattle.format.specs.Judged.{nodesIn, modelIn}
 use Rattle.format.specs.Constraints.{Unsatisfied, AcceptedSharpened, JudgedAfresh, ModelAfresh}
