@@ -5,6 +5,7 @@
 
 mod adding;
 mod by_hand;
+mod constraints;
 mod examples;
 mod families;
 mod handed_in;
@@ -55,6 +56,7 @@ pub fn cases() -> Vec<Case> {
         rule_words::cases(),
         limits::cases(),
         models::cases(),
+        constraints::cases(),
         steps::cases(),
         swaps::cases(),
         families::cases(),

@@ -16,14 +16,26 @@ pub struct DraftRow {
 }
 
 impl DraftRow {
+    pub fn new(rule: &str, principal: Option<Formula>, premises: &[usize], sequent: Sequent) -> Self {
+        let rule = ELK.code(rule).expect("a rule of the table");
+        DraftRow { rule, principal, premises: premises.into(), sequent }
+    }
+
     pub fn kind(&self) -> Kind {
         ELK.rules[self.rule].conclusion.kind
+    }
+
+    /// The principal and the formulas of both sides.
+    fn formulas(&self) -> Vec<Formula> {
+        let Sequent { antecedent, succedent } = &self.sequent;
+        self.principal.iter().chain(antecedent).chain(succedent).copied().collect()
     }
 }
 
 /// Atoms are named, formulas are numbered in the order of `listed`, which holds every
 /// formula of the rows after its parts. The claim is the last row, with a model beside it
 /// or none.
+#[derive(Clone)]
 pub struct Draft {
     pub names: Vec<String>,
     pub formulas: Formulas,
@@ -36,16 +48,26 @@ impl Draft {
     /// Numbers the formulas of the rows, and those in `first` before them.
     pub fn new(names: Vec<String>, formulas: Formulas, first: &[Formula], rows: Vec<DraftRow>) -> Self {
         let mut draft = Draft { names, formulas, listed: vec![], rows, model: None };
-        let of_row = |row: &DraftRow| {
-            let Sequent { antecedent, succedent } = row.sequent.clone();
-            row.principal.into_iter().chain(antecedent).chain(succedent).collect::<Vec<_>>()
-        };
-        let wanted: Vec<Formula> = draft.rows.iter().flat_map(of_row).collect();
-        let mut listed = vec![false; draft.formulas.nodes().len()];
-        for formula in first.iter().copied().chain(wanted) {
-            draft.list(formula, &mut listed);
-        }
+        let wanted: Vec<Formula> = draft.rows.iter().flat_map(DraftRow::formulas).collect();
+        draft.number(first.iter().copied().chain(wanted));
         draft
+    }
+
+    /// Adds a row, and numbers those of its formulas that are new.
+    pub fn push(&mut self, row: DraftRow) {
+        self.number(row.formulas());
+        self.rows.push(row);
+    }
+
+    /// Numbers formulas, parts before wholes, after those that are numbered already.
+    fn number(&mut self, formulas: impl IntoIterator<Item = Formula>) {
+        let mut listed = vec![false; self.formulas.nodes().len()];
+        for &formula in &self.listed {
+            listed[self.formulas.place(formula)] = true;
+        }
+        for formula in formulas {
+            self.list(formula, &mut listed);
+        }
     }
 
     fn list(&mut self, formula: Formula, listed: &mut [bool]) {
@@ -62,10 +84,7 @@ impl Draft {
     pub fn shuffle(&mut self, random: &mut Random) {
         let mut waiting = std::mem::take(&mut self.listed);
         random.shuffle(&mut waiting);
-        let mut listed = vec![false; self.formulas.nodes().len()];
-        for formula in waiting {
-            self.list(formula, &mut listed);
-        }
+        self.number(waiting);
     }
 
     /// Puts one of the models of the last row's left beside the claim, if it wants one.
@@ -83,12 +102,8 @@ impl Draft {
     /// Adds a row of an atom alone, with that atom as the model beside the claim.
     pub fn close(&mut self, atom: u16) {
         let p = self.formulas.atom(atom);
-        if !self.listed.contains(&p) {
-            self.listed.push(p);
-        }
-        let rule = ELK.code("same").expect("same is a rule");
         let sequent = Sequent { antecedent: [p].into(), succedent: [p].into() };
-        self.rows.push(DraftRow { rule, principal: Some(p), premises: vec![], sequent });
+        self.push(DraftRow::new("same", Some(p), &[], sequent));
         self.model = Some(1 << atom);
     }
 

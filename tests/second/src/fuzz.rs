@@ -2,16 +2,21 @@
 //!
 //! Every text is judged by set algebra and by search; what is accepted must be true
 //! in the brute-force semantics, row by row, and its model be one there, or the left have
-//! none where there is no model; its tables must give the text back, and its words the
-//! rows; an answer that is known beforehand must be given; another writing of the same lists
-//! must change nothing; and rows that are entered one by one must be answered as in their
-//! places.
+//! none where there is no model; constraints must take from the models of the left those that
+//! satisfy what is forbidden, and no others, and leave the claim true; its tables must give the
+//! text back, and its words the rows; an answer that is known beforehand must be given; another
+//! writing of the same lists must change nothing; and rows that are entered one by one must be
+//! answered as in their places.
 
+use crate::constraint::{against, stays};
 use crate::draft::{atom_list, list};
 use crate::entering;
-use crate::formula::{Atoms, Formulas, Node};
+use crate::formula::{Atoms, Formulas, Node, rising};
+use crate::generate::{MOST_TRIED, formula};
 use crate::judge::{Deciding, Derivation, Judgement, Refusal, judge, judge_closely};
 use crate::line::{self, Line};
+use crate::prove::{sequent, with};
+use crate::random::Random;
 use crate::reading;
 use crate::rewrite::in_runs;
 use crate::rules::ELK;
@@ -39,6 +44,7 @@ struct Report {
     claims_confirmed: usize,
     contradictions_shown: usize,
     claims_too_large: usize,
+    constraints: ConstraintCounts,
     words_read: usize,
     words_too_long: usize,
     rewritten: usize,
@@ -54,6 +60,19 @@ struct RowCounts {
     wrong_step: usize,
     too_many_atoms: usize,
 }
+
+/// What became of accepted claims when formulas were forbidden, each alone, or stated in place
+/// of that.
+#[derive(Clone, Copy, Default)]
+struct ConstraintCounts {
+    joined: usize,
+    lost_a_model: usize,
+    lost_the_last: usize,
+    failed_with_the_fact: usize,
+}
+
+/// So many formulas are forbidden, each alone, in the sheet of each accepted claim.
+const FORBIDDEN: usize = 5;
 
 /// So many of the last rows are entered one by one.
 const MOST_ENTERED: usize = 4;
@@ -132,6 +151,7 @@ impl Report {
                     return Err("tables that give another text".into());
                 }
                 self.value(derivation)?;
+                self.sharpen(derivation, &mut Random::new(hashed(text)))?;
                 self.read_back(derivation)?;
             }
             None if !judgement.all_zero() => return Err("tables that aren't zero after a refusal".into()),
@@ -226,6 +246,42 @@ impl Report {
         }
         Ok(())
     }
+
+    /// Forbids formulas over the atoms of the claim and one more, in both forms, where the atoms
+    /// are few: of the models of the left those stay that do not satisfy what is forbidden, no
+    /// others come, and the claim is still true. With the formula as a fact it need not be.
+    fn sharpen(&mut self, derivation: &Derivation, random: &mut Random) -> Result<(), String> {
+        let Sequent { antecedent: left, succedent: right } = &derivation.claim;
+        let Some(atoms) = few_atoms(&derivation.formulas, [&derivation.claim]) else { return Ok(()) };
+        let atoms = atoms | 1 << atoms.trailing_ones();
+        let mut formulas = derivation.formulas.clone();
+        let chosen = [(); FORBIDDEN].map(|()| {
+            let forbidden = formula(random, &mut formulas, &rising(atoms).collect::<Vec<_>>(), 2);
+            (forbidden, against(&mut formulas, forbidden))
+        });
+        let mut interpretations = Interpretations::over(&formulas, atoms);
+        let models = interpretations.equilibrium_models(left);
+        for (forbidden, constraints) in chosen {
+            let left_over: Vec<Atoms> =
+                models.iter().copied().filter(|&model| stays(&formulas, model, forbidden)).collect();
+            for constraint in constraints {
+                let sheet = with(left, constraint);
+                if interpretations.equilibrium_models(&sheet) != left_over {
+                    return Err("a constraint that leaves other models than it should".into());
+                }
+                if !interpretations.entails(&sequent(&sheet, right)) {
+                    return Err("the claim is accepted and fails with a constraint".into());
+                }
+            }
+            let counts = &mut self.constraints;
+            counts.joined += 1;
+            counts.lost_a_model += usize::from(left_over.len() < models.len());
+            counts.lost_the_last += usize::from(left_over.is_empty() && !models.is_empty());
+            let with_the_fact = sequent(&with(left, forbidden), right);
+            counts.failed_with_the_fact += usize::from(!interpretations.entails(&with_the_fact));
+        }
+        Ok(())
+    }
 }
 
 fn hashed(what: &impl Hash) -> u64 {
@@ -246,7 +302,7 @@ fn rule_of(line: &[u8]) -> Option<usize> {
 fn few_atoms<'a>(formulas: &Formulas, sequents: impl IntoIterator<Item = &'a Sequent>) -> Option<Atoms> {
     let sides = sequents.into_iter().flat_map(|s| s.antecedent.iter().chain(&s.succedent));
     let atoms = formulas.atoms_of(sides);
-    (atoms.count_ones() <= 6).then_some(atoms)
+    (atoms.count_ones() as usize <= MOST_TRIED).then_some(atoms)
 }
 
 fn used_records(table: &[u16], used: usize, width: usize) -> impl Iterator<Item = &[u16]> {
@@ -310,6 +366,14 @@ impl fmt::Display for Report {
             {shown} show a contradiction; {} have too many atoms for it",
             self.claims_too_large
         )?;
+        let ConstraintCounts { joined, lost_a_model, lost_the_last, failed_with_the_fact } = self.constraints;
+        writeln!(
+            f,
+            "{joined} constraints, each in both forms, leave accepted claims true by brute force and \
+            exclude the models that they should, at least one in {lost_a_model} cases and the last in \
+            {lost_the_last}; in {failed_with_the_fact} the claim fails with the fact in the constraint's \
+            place"
+        )?;
         let (read, different, too_long) = (self.words_read, self.rows_by_words.len(), self.words_too_long);
         writeln!(
             f,
@@ -335,6 +399,10 @@ mod tests {
         assert!(report.rewritten > 1_000 && report.rewritten_accepted > 300, "{report}");
         assert!(report.judged().all(|(_, count)| count > 5), "{report}");
         assert!(report.claims_confirmed > 100 && report.contradictions_shown > 50, "{report}");
+        let ConstraintCounts { joined, lost_a_model, lost_the_last, failed_with_the_fact } =
+            report.constraints;
+        assert!(joined > 1_000 && lost_a_model > 300 && lost_the_last > 100, "{report}");
+        assert!(failed_with_the_fact > 10, "{report}");
         let common = |(&code, counts): (&usize, &RowCounts)| {
             let RowCounts { passed, wrong_premises, wrong_step, too_many_atoms } = *counts;
             let wide_in_swap_alone = match ELK.rules[code].name {

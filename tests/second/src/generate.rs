@@ -20,7 +20,7 @@ const FEW: usize = 3;
 const MANY: usize = MOST_SWAPPED as usize + 2;
 
 /// The most atoms of which every pair is tried for a model.
-const MOST_TRIED: usize = 6;
+pub const MOST_TRIED: usize = 6;
 
 /// A derivation of one of the four sorts.
 pub fn any(random: &mut Random) -> Draft {
@@ -109,7 +109,7 @@ fn general(random: &mut Random, atoms: &[u16], rule: &Rule) -> Option<Prover> {
         });
     }
     let sequent = ELK.sequent(&mut prover.formulas, &rule.conclusion, &bindings, &sets);
-    prover.push(DraftRow { rule: ELK.code(rule.name)?, principal, premises, sequent });
+    prover.push(DraftRow::new(rule.name, principal, &premises, sequent));
     Some(prover)
 }
 
@@ -200,8 +200,7 @@ fn some_atoms(random: &mut Random, atoms: &[u16]) -> Atoms {
 }
 
 fn same(common: Formula, sequent: Sequent) -> DraftRow {
-    let rule = ELK.code("same").expect("same is a rule");
-    DraftRow { rule, principal: Some(common), premises: vec![], sequent }
+    DraftRow::new("same", Some(common), &[], sequent)
 }
 
 /// What `xini` allows, on one side or the other.
@@ -251,12 +250,7 @@ fn forward(random: &mut Random, prover: &mut Prover, pool: &[Formula], rule: &Ru
     let sequents = premises.iter().map(|&k| &prover.rows[k].sequent).collect();
     let step = Step { rule, principal, premises: sequents, conclusion: &sequent };
     let verdict = by_algebra(&ELK, &mut prover.formulas, &step);
-    (verdict == Verdict::Instance).then(|| DraftRow {
-        rule: ELK.code(rule.name).expect("a rule of the table"),
-        principal,
-        premises,
-        sequent,
-    })
+    (verdict == Verdict::Instance).then(|| DraftRow::new(rule.name, principal, &premises, sequent))
 }
 
 /// For each set of a rule: what all premises with it have in common, less some of the
@@ -347,8 +341,7 @@ pub fn swap_or_none(random: &mut Random) -> Draft {
 }
 
 fn swap(new: Formula, premise: usize, sequent: Sequent) -> DraftRow {
-    let rule = ELK.code("swap").expect("swap is a rule");
-    DraftRow { rule, principal: Some(new), premises: vec![premise], sequent }
+    DraftRow::new("swap", Some(new), &[premise], sequent)
 }
 
 /// A formula that is equal to another, comes near it, is it, or is any.
@@ -383,7 +376,7 @@ fn over_some(random: &mut Random, formulas: &mut Formulas, atoms: &[u16]) -> For
     })
 }
 
-fn pick_of(random: &mut Random, set: &FormulaSet) -> Formula {
+pub fn pick_of(random: &mut Random, set: &FormulaSet) -> Formula {
     *set.iter().nth(random.below(set.len())).expect("within the set")
 }
 
@@ -413,7 +406,7 @@ fn attempt(random: &mut Random, most: usize, make: impl Fn(&mut Random, &[u16]) 
     }
 }
 
-fn fits_a_file(draft: &Draft) -> bool {
+pub fn fits_a_file(draft: &Draft) -> bool {
     let sides = |side: fn(&Sequent) -> &FormulaSet| {
         let lengths = draft.rows.iter().map(move |row| side(&row.sequent).len());
         lengths.clone().all(|length| length <= MOST_ON_A_SIDE) && lengths.sum::<usize>() <= MOST_IN_A_POOL

@@ -5,6 +5,7 @@
 
 pub mod adding;
 mod checker;
+pub mod constraint;
 pub mod corpus;
 pub mod draft;
 pub mod entering;

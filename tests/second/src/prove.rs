@@ -21,13 +21,13 @@ pub struct Prover {
     known: HashMap<(Kind, Sequent), usize>,
 }
 
-fn with(set: &FormulaSet, formula: Formula) -> FormulaSet {
+pub(crate) fn with(set: &FormulaSet, formula: Formula) -> FormulaSet {
     let mut set = set.clone();
     set.insert(formula);
     set
 }
 
-fn sequent(antecedent: &FormulaSet, succedent: &FormulaSet) -> Sequent {
+pub(crate) fn sequent(antecedent: &FormulaSet, succedent: &FormulaSet) -> Sequent {
     Sequent { antecedent: antecedent.clone(), succedent: succedent.clone() }
 }
 
@@ -45,8 +45,7 @@ impl Prover {
     }
 
     fn row(&mut self, rule: &str, principal: Option<Formula>, premises: &[usize], sequent: Sequent) -> usize {
-        let rule = ELK.code(rule).expect("a rule of the table");
-        let row = DraftRow { rule, principal, premises: premises.into(), sequent };
+        let row = DraftRow::new(rule, principal, premises, sequent);
         match self.known.get(&(row.kind(), row.sequent.clone())) {
             Some(&number) => number,
             None => self.push(row),

@@ -3,11 +3,13 @@
 //! A line is `rule principal premises left => right` (or `left ; right`), in which
 //! premises are counted among these lines from 0. `prove left => right` and `refute
 //! left ; right` stand for as many rows as it takes, the last of which is meant by
-//! the line's number. `atoms` and `also`, both first, give the order of atoms (else
-//! that of the alphabet) and formulas to be numbered first. `model` gives the atoms of
-//! the M line, `-` for none.
+//! the line's number; `join constraint` likewise for those by which `~A` or `A->#` joins
+//! the sequent of the line before. `atoms` and `also`, both first, give the order of atoms
+//! (else that of the alphabet) and formulas to be numbered first. `model` gives the atoms
+//! of the M line, `-` for none.
 
 use super::Case;
+use crate::constraint;
 use crate::draft::{Draft, DraftRow};
 use crate::formula::{Atoms, Formula, Formulas};
 use crate::notation;
@@ -110,6 +112,13 @@ impl Reader<'_> {
                     Kind::Elk => self.prover.prove(&goal)?,
                     Kind::Refutation => self.prover.refute(&goal)?,
                 }
+            }
+            ["join", constraint] => {
+                let constraint = notation::formula(formulas, constraint, &mut atom);
+                let (claimed, next) = (*self.made.last().expect("a line before"), self.prover.rows.len());
+                let claim = self.prover.rows[claimed].sequent.clone();
+                let rows = constraint::joining(formulas, constraint, &claim, claimed, next);
+                rows.into_iter().fold(claimed, |_, row| self.prover.push(row))
             }
             [rule, principal, premises, left, sign, right] => {
                 let rule = ELK.code(rule).expect("a rule of the table");
