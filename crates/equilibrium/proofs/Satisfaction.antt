@@ -1,4 +1,4 @@
--- Satisfaction: it persists from H to T, is decided, of one formula more or less, and depends on H and T only at the atoms that occur.
+-- Satisfaction: it persists from H to T, is decided, and depends on H and T only at the atoms that occur; and of one formula more.
 use Prim.Native.Nat.{ℕ}
 use mathlib.Core.Path.{_≡_, refl}
 use mathlib.Core.List.{List, [], _∷_, List·Memᴰ·head, List·Memᴰ·tail, List·Memᴰ·not-nil, List·Memᴰ·cases-cons, Memᴰ·append-left, Memᴰ·append-right}
