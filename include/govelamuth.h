@@ -5,9 +5,9 @@
  * 1, 2 and 14. If the number is 0, the text's claim does not fail: every equilibrium model of its left side satisfies a formula of its
  * right side. And either the claim is confirmed, since its left side has an equilibrium model, the one on the text's M line; or a
  * contradiction is shown: the text has no M line, the claim's right side is empty or holds only falsum, and its left side has no
- * equilibrium model. When a constraint, ~A or A-># for any formula A, joins the left side, the claim is still entailed, and it is still
- * shown exactly if the model on the M line does not satisfy A: if it does, another model has to be named, and there may be none. When a
- * fact joins, nothing of the kind is promised.
+ * equilibrium model. When a constraint, ~A or A-># for any formula A, joins the left side, the claim is still entailed; a contradiction is
+ * still shown, and a claim still confirmed exactly if the model on the M line does not satisfy A: if it does, another model has to be named,
+ * and there may be none. When a fact joins, nothing of the kind is promised.
  *
  * elk_open, elk_add and elk_preview judge a text that is still being written. Their number 0 says that each line so far passes; by
  * itself it confirms no claim, since there need be none. They are in libgovelamuth_open.a, the others in libgovelamuth.a; neither
