@@ -30,7 +30,7 @@ rules_count = refl
 -- a rule's code is its place less one
 pub rule_at_code : (r : Rule) → at rules (code_of r) ≡ some r
 rule_at_code r =
-    elim r [
+    elim r as (λ k. at rules (code_of k) ≡ some k) [
       | def ↦ refl
       | same ↦ refl
       | andl ↦ refl

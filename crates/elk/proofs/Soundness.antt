@@ -31,6 +31,7 @@ only_itself {p} (A ∷ L) only m = ⊎_elim first (λ k. Memᴰ.tail (only_itsel
   where
     first : p ∈ atoms_of A → atom p ∈ A ∷ L
     first k = let a = only A (Memᴰ.head refl) in Memᴰ.head (ap atom (Memᴰ.eq_of_singleton (rw a.1 at k)) ∙ sym a.1)
+only_itself {p = p} [] only m = elim m [ ]
 
 def_sound : {p : ℕ} {L R : List Formula} → ((G : Formula) → G ∈ L → (q : ℕ) × (G ≡ atom q)) → (atom p ∈ L → ⊥) → Entails L (neg (atom p) ∷ R)
 def_sound {p} {L} only out T e = some_head (λ m. out (only_itself L only (only_occurring e p m)))
@@ -43,6 +44,7 @@ rcut_sound {R = R} {Q} v w T e =
 joined_holds : (H T : List ℕ) (Fs : List Formula) {F : Formula} → F ∈ Fs → AllHold H T Fs → Holds H T (joined Fs)
 joined_holds H T (F ∷ []) m h = all_head h
 joined_holds H T (F ∷ G ∷ Fs) m h = (all_head h, joined_holds H T (G ∷ Fs) (Memᴰ.head refl) (all_tail h))
+joined_holds H T [] {F = F} m h = elim m [ ]
 
 -- an atom that K and ~~S,~S' speak of is in T, which satisfies K, exactly if it is in U, where (G,U) satisfies ~~S,~S'
 fixed_agree : (G U T : List ℕ) (e : ℕ × Bool) → Holds T T (literal e) → Holds G U (fixed e) → (e.0 ∈ U) ↔ (e.0 ∈ T)
@@ -186,6 +188,7 @@ pub derivation_sound : {usable : List Rule} {rows : List Sequent} → Derivation
 derivation_sound (row d r u F premises {s = last} inside i) s (Memᴰ.head e) =
     rw e (rule_sound r F premises last i (λ p m. derivation_sound d p (inside p m)))
 derivation_sound (row d r u F premises inside i) s (Memᴰ.tail m) = derivation_sound d s m
+derivation_sound {usable = usable} Rattle.elk.specs.Derivation.start s x3 = elim x3 [ ]
 
 pub derivable_sound : {usable : List Rule} {s : Sequent} → DerivableBy usable s → Valid s
 derivable_sound d = valid_same d.ends (derivation_sound d.derivation d.last (Memᴰ.head refl))

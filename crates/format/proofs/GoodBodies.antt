@@ -45,7 +45,7 @@ in_get_d (x ∷ xs) (suc i) d h = Memᴰ.tail (in_get_d xs i d (omega arith))
 pub in_place_lem : {X : Type 0} {x : X} (xs : List X) (d : X) → x ∈ xs → (i : ℕ) × (i < length xs) × (get_or xs i d ≡ x)
 in_place_lem [] d m = absurd (Memᴰ.not-nil m)
 in_place_lem {x} (y ∷ ys) d m =
-    ⊎_elim (λ (e : x ≡ y). (0, omega arith, sym e)) (λ k. let at = in_place_lem ys d k in (suc at.0, omega (arith, at.1), at.2)) (Memᴰ.cases_cons m)
+    ⊎_elim (λ (e : x ≡ y). (0, omega arith, sym e)) (λ k. let at = in_place_lem {x = x} ys d k in (suc at.0, omega (arith, at.1), at.2)) (Memᴰ.cases_cons m)
 
 -- the last of n + 1, or one before it
 pub at_end : (n i : ℕ) → i < suc n → (i < n) ⊎ (i ≡ n)

@@ -115,9 +115,9 @@ enter : (fs : List Formula) → Numbering fs → (A : Formula) → Longer fs (A 
 enter fs n falsum = add_next falsum (longer_nil fs n)
 enter fs n (atom p) = add_next (atom p) (longer_nil fs n)
 enter fs n (neg A) = add_next (neg A) (enter fs n A)
-enter fs n (conj A B) = add_next (conj A B) (then (enter fs n A) (enter _ (enter fs n A).numbering B))
-enter fs n (disj A B) = add_next (disj A B) (then (enter fs n A) (enter _ (enter fs n A).numbering B))
-enter fs n (imp A B) = add_next (imp A B) (then (enter fs n A) (enter _ (enter fs n A).numbering B))
+enter fs n (conj A B) = add_next (conj A B) (then (enter fs n A) (enter (enter fs n A).all (enter fs n A).numbering B))
+enter fs n (disj A B) = add_next (disj A B) (then (enter fs n A) (enter (enter fs n A).all (enter fs n A).numbering B))
+enter fs n (imp A B) = add_next (imp A B) (then (enter fs n A) (enter (enter fs n A).all (enter fs n A).numbering B))
 
 enter_all : (fs : List Formula) → Numbering fs → (As : List Formula) → Longer fs As
 enter_all fs n [] = longer_nil fs n

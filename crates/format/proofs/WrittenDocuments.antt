@@ -122,8 +122,8 @@ module _ (d : Document) (good : GoodDocument d) where
       past_line model_place ms ∙ omega (arith, past_line top before, ap length all_lines, counted, length-append ms (claims ∷ []))
 
   -- and the M line on the one before
-  model_line : model_on model_place.line <$> d.model ≡ model_on (length (lines_in d) - 1) <$> d.model
-  model_line = by d.model claim_line_lem
+  model_line_lem : model_on model_place.line <$> d.model ≡ model_on (length (lines_in d) - 1) <$> d.model
+  model_line_lem = by d.model claim_line_lem
     where
       by : (m : Option (List ℕ)) → (past model_place (model_lines m)).line ≡ length (lines_in d)
           → model_on model_place.line <$> m ≡ model_on (length (lines_in d) - 1) <$> m
@@ -143,7 +143,7 @@ module _ (d : Document) (good : GoodDocument d) where
       let claim = claim_leads names (body_of d) held d.left d.right good.claim model.0 model.1 given confirmed claim_place in
       let file : ℕ → Option Model → File =
       λ n m. with_claim (unclaimed names model.0 m (body_of d)) (record { line = n; left = d.left; right = d.right }) in
-      let last = subst (Leads _ _ _) (ap₂ file claim_line_lem model_line) claim in
+      let last = subst (Leads _ _ _) (ap₂ file claim_line_lem model_line_lem) claim in
       subst (λ (ls : List Line). Leads top ls no_file (file_of d)) all_lines (leads_append to_body.leads (leads_append model.2 last))
     where
       same_atoms : (m : Option (List ℕ)) → m ≡ atoms_given (model_on model_place.line <$> m)

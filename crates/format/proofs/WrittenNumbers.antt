@@ -1,5 +1,5 @@
 -- A number, a list and a principal are read back as they were written.
-use Prim.Native.Nat.{ℕ, zero, suc, ◌+◌, ◌*◌, ◌/◌, ◌%◌, ◌^◌, ◌≤◌, ◌<◌, min}
+use Prim.Native.Nat.{◌-◌, ℕ, zero, suc, ◌+◌, ◌*◌, ◌/◌, ◌%◌, ◌^◌, ◌≤◌, ◌<◌, min}
 use mathlib.Core.Path.{◌≡◌, refl, sym, ap, ◌∙◌}
 use mathlib.Core.Bool.{Bool, true, false, cond}
 use mathlib.Core.List.{List, [], ◌∷◌, ◌++◌, map, append-nil, append_assoc}
@@ -36,7 +36,7 @@ no_leading_zero (suc k) n bs l h =
 
 value_last : (n : ℕ) (bs : Bytes) (d : ℕ) → value_from n (bs ++ digit d ∷ []) ≡ value_from n bs * 10 + d
 value_last n [] d = omega arith
-value_last n (b ∷ bs) d = value_last _ bs d
+value_last n (b ∷ bs) d = value_last (n * 10 + (b - 48)) bs d
 
 value_digits : (k n : ℕ) → n < 10 ^ k → value_from 0 (digits k n) ≡ n
 unfolding digits
