@@ -1,5 +1,7 @@
 // A row added to an open file, or tried first (paper 02, M-105). The open file is judged before the row, and nothing is written before
 // the row has passed.
+#![tactic(auto)]
+
 mod reading;
 mod trial;
 

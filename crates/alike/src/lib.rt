@@ -1,5 +1,7 @@
 // Whether one of some candidates is equal to a formula, where the atoms of each, with the formula's, have places of their own, at most 8 of
 // them. The formulas under all of these are listed once and judged in 256 pairs at a time.
+#![tactic(auto)]
+
 mod blocks;
 mod places;
 mod steps;

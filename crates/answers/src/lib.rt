@@ -1,4 +1,6 @@
 // The answer to a text, after the run over its complete lines.
+#![tactic(auto)]
+
 ghost use Rattle.std.specs.Prelude.{◌≡◌, length};
 ghost use Rattle.answers.specs.Answers.{finished};
 

@@ -2,6 +2,8 @@
 // The contract of a function that returns a set says for every atom whether the set has it, or gives the members in rising order;
 // either fixes the word.
 // Nothing is asked of any argument.
+#![tactic(auto)]
+
 ghost use Rattle.std.specs.Prelude.{◌≡◌, ◌↔◌, true, ◌||◌, ◌&&◌, not, ℕ, eqb, ltb, length, get_or, drop};
 ghost use Rattle.atomset.specs.AtomSet.{has, Included, members};
 

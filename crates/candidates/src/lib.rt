@@ -1,5 +1,7 @@
 // The candidates for B in a row of `swap`, which stand on a side: whether one holds in the same here-and-there interpretations as A.
 // Candidates whose atoms can be given places of their own, at most 8 of them, are judged together.
+#![tactic(auto)]
+
 mod places;
 
 ghost use Rattle.std.specs.Prelude.{ℕ, ◌≤◌, ◌<◌, ◌↔◌, ◌≡◌, length, get_or};

@@ -1,5 +1,7 @@
 // The counts of a body that tables hold, handed in and back by value. A method that adds an item hands back the counts with it, or
 // the same counts where a limit would be passed.
+#![tactic(auto)]
+
 pub mod lengths;
 pub mod limits;
 

@@ -1,4 +1,6 @@
 // The rule rcut: L => R,A and L,A => Q give L => R,Q.
+#![tactic(auto)]
+
 ghost use Rattle.std.specs.Prelude.{[], ◌∷◌};
 ghost use Rattle.sides.specs.Deciding.{DecidesIf};
 ghost use Rattle.sides.specs.Members.{AllRise};

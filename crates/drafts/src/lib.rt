@@ -1,5 +1,7 @@
 // A row as it was read out of its line, on its way to its number: its fields, whether they are well written, the draft that it
 // is judged by, and what is stored of it.
+#![tactic(auto)]
+
 pub mod store;
 
 ghost use Rattle.std.specs.Prelude.{◌≡◌};

@@ -1,4 +1,6 @@
 // The numbers of a row that come before its rule: room, references and sides, by the row as it was read and the counts.
+#![tactic(auto)]
+
 ghost use Rattle.std.specs.Prelude.{◌≡◌, ◌||◌};
 ghost use Rattle.format.specs.Tests.{first};
 ghost use Rattle.early.specs.Early.{past_of, ahead_of, bad_of, references_of, early_of, numbered};

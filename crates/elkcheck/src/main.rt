@@ -3,6 +3,8 @@
 // tries the row that follows it: the answer of opening, and where that is 0 a second line with the row's. If reading or writing fails
 // it says so on standard error, and a failed read leaves standard output empty: trouble never looks like a verdict. A failed write may
 // leave some sentences.
+#![tactic(auto)]
+
 ghost use Rattle.std.specs.Prelude.{◌≤◌, length};
 
 use adding::OpenFile;

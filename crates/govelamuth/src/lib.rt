@@ -1,4 +1,6 @@
 // The calls for C, each under its C name: a slice is a pointer and a length. `include/govelamuth.h` has their promises.
+#![tactic(auto)]
+
 ghost use Rattle.std.specs.Prelude.{length};
 ghost use Rattle.run.specs.Lent.{five, lengths};
 ghost use Rattle.judge.specs.Contract.{Judges, Checks};

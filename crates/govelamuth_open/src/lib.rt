@@ -1,5 +1,7 @@
 // The calls for C on open files, each under its C name: a slice is a pointer and a length. `include/govelamuth.h` has their promises.
 // They are a library of their own, so that whoever judges whole texts alone links nothing of it.
+#![tactic(auto)]
+
 ghost use Rattle.run.specs.Lent.{five, lengths};
 ghost use Rattle.bodies.specs.Open.{four};
 ghost use Rattle.opening.specs.Contract.{Opens};

@@ -1,5 +1,7 @@
 // Tables and counts that are handed in: whether they are those of a good body (paper 02, M-105). Nothing of them is believed: each
 // formula and each row is judged again over what stands before it, and what is known of the formulas is noted anew.
+#![tactic(auto)]
+
 mod derivation;
 mod formulas;
 mod limits;

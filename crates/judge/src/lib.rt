@@ -1,5 +1,7 @@
 // A whole text judged: the lengths first, then line by line into the lent tables, which hold the accepted file in the end, or
 // zeros. This is the call that the specification's demands 1 and 3 speak of.
+#![tactic(auto)]
+
 ghost use Rattle.std.specs.Prelude.{◌≡◌, false};
 ghost use Rattle.format.specs.Tables.{too_short};
 ghost use Rattle.run.specs.Lent.{five, lengths, clear, Zeros};

@@ -1,4 +1,6 @@
 // The words of a text: the kinds of line, the words of formulas, and the rules.
+#![tactic(auto)]
+
 ghost use Rattle.std.specs.Prelude.{◌≡◌, get_or};
 ghost use Rattle.format.specs.Text.{same_list};
 ghost use Rattle.format.specs.Line.{rule_of};

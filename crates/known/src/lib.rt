@@ -1,4 +1,6 @@
 // The one door by which a formula enters the tables: an equal one is found, or it is appended with what is known of it.
+#![tactic(auto)]
+
 mod atoms;
 pub mod index;
 pub mod literals;

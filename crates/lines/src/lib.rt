@@ -1,5 +1,7 @@
 // One line of a text judged and, where it passes, stored: read into a draft, tested, and only then written into the lent
 // tables, so that a refused line leaves them as they were.
+#![tactic(auto)]
+
 mod atom;
 mod claim;
 mod formula;

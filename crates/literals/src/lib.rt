@@ -1,5 +1,7 @@
 // The rules on literals: `def`, whose left side is atoms alone, and `xini`, whose sides are literals that do not meet. Both read
 // the formulas of a side off the formulas table by their shapes; what they answer is defined over any table.
+#![tactic(auto)]
+
 ghost use Rattle.std.specs.Prelude.{◌≡◌, true, ◌↔◌, ℕ};
 ghost use Rattle.atomset.specs.AtomSet.{Member};
 ghost use Rattle.literals.specs.Literals.{atom_but, atoms_but, Adds, Collects, DefaultStep, InitialStep};

@@ -1,4 +1,6 @@
 // What each of the 38 rules says, in English: the phrases end to end, in the order of the rules' codes, and where each starts.
+#![tactic(auto)]
+
 ghost use Rattle.std.specs.Prelude.{◌≡◌, ◌-◌};
 ghost use Rattle.format.specs.Tables.{part};
 ghost use Rattle.words.specs.Meanings.{meaning_at};

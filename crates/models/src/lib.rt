@@ -1,5 +1,7 @@
 // The model beside a claim (paper 02, M-101): whether one is wanted, has few atoms, and is an equilibrium model of the claim's left
 // side, the sheet. The model is one 64-bit word. Its proper parts are counted, and each is judged with the model as a pair of words.
+#![tactic(auto)]
+
 ghost use Rattle.std.specs.Prelude.{◌≡◌, not, ◌≤◌, length};
 ghost use Rattle.format.specs.Text.{all};
 ghost use Rattle.format.specs.Tables.{most_formulas};

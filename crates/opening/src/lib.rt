@@ -1,5 +1,7 @@
 // A beginning of a file opened: its lines judged into the lent tables, which hold what they come to, or zeros. Rows are then added
 // by the counts that are handed out (M-105).
+#![tactic(auto)]
+
 ghost use Rattle.std.specs.Prelude.{◌≡◌, false, ◌-◌, length};
 ghost use Rattle.format.specs.Tables.{too_short};
 ghost use Rattle.run.specs.Lent.{five, lengths, Zeros};

@@ -1,6 +1,8 @@
 // The truth of formulas in a here-and-there pair (h,t) of sets of atoms, each one 64-bit word: noted in a table of bytes, in the
 // order of the formulas table, so that a formula which others share is judged once. The pair (t,t) is judged first. A negation is
 // as true in (h,t) as in (t,t), and an implication holds in (h,t) only if it does in (t,t).
+#![tactic(auto)]
+
 ghost use Rattle.std.specs.Prelude.{◌≡◌, Bool, ◌&&◌, ◌||◌, List, map, ℕ, min, max, eqb, ltb, get_or};
 ghost use Rattle.atomset.specs.AtomSet.{has, members, set_of};
 ghost use Rattle.pairs.specs.Bounds.{PastLargest};

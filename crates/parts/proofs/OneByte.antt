@@ -1,7 +1,7 @@
 -- A field of one byte is told by that byte. Assumes nothing.
 use Prim.Native.Nat.{ℕ}
 use mathlib.Core.Path.{◌≡◌, refl}
-use mathlib.Core.Bool.{false, and_true, and-false}
+use mathlib.Core.Bool.{false, and-true, and-false}
 use mathlib.Core.List.{[], ◌∷◌}
 use native.Mathlib.Omega.{arith}
 use lib.Dec.{eqb}
@@ -11,7 +11,7 @@ use Rattle.format.specs.Text.{Bytes, same_list}
 pub one_byte : (field : Bytes) (b : ℕ) → length field ≡ 1 → same_list field (b ∷ []) ≡ eqb (get_or field 0 0) b
 unfolding same_list
 one_byte [] b h = absurd (omega arith)
-one_byte (x ∷ []) b h = and_true (eqb x b)
+one_byte (x ∷ []) b h = and-true (eqb x b)
 one_byte (x ∷ y ∷ ys) b h = absurd (omega arith)
 
 pub not_one_byte : (field : Bytes) (b : ℕ) → (length field ≡ 1 → ⊥) → same_list field (b ∷ []) ≡ false

@@ -1,4 +1,6 @@
 // The parts of a text that separators bound, and the fields of a line.
+#![tactic(auto)]
+
 pub mod refusals;
 
 ghost use Rattle.std.specs.Prelude.{◌≡◌, true, ◌+◌, ◌≤◌, length};

@@ -1,5 +1,7 @@
 // One row of a derivation judged by tables that begin with a good body: room for it (5), what it refers to (7), its sides (9), its
 // premises (10), and whether it is an instance of its rule (18, 11). Nothing is stored, and what stands after the body does not matter.
+#![tactic(auto)]
+
 pub mod last;
 mod premises;
 mod step;

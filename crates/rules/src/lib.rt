@@ -1,5 +1,7 @@
 // The rule table of the calculus as numbers: how each of the 38 rules is judged, what number 10 asks of its rows, and what it
 // adds to L and R.
+#![tactic(auto)]
+
 ghost use Rattle.std.specs.Prelude.{◌≡◌, get_or};
 ghost use Rattle.rules.specs.RuleTable.{packed_rules, number_in, rule_number};
 

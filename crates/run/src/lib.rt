@@ -1,4 +1,6 @@
 // The complete lines of a text judged one after the other, each into the lent tables, up to the first one that is refused.
+#![tactic(auto)]
+
 ghost use Rattle.std.specs.Prelude.{◌≡◌};
 ghost use Rattle.state.specs.State.{tables};
 ghost use Rattle.run.specs.Running.{RunOver};

@@ -1,5 +1,7 @@
 // The rules of the table: a conclusion and premises that each add a few formulas to one L and one R. A row is judged by its sides
 // as numbers, for tables and notes of any contents.
+#![tactic(auto)]
+
 mod additions;
 mod parts;
 

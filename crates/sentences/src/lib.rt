@@ -1,5 +1,7 @@
 // The sentence of each row of a file, written into a lent text one after the other. The tables may have any length and hold
 // anything, and so may the lent text.
+#![tactic(auto)]
+
 ghost use Rattle.std.specs.Prelude.{◌≡◌};
 ghost use Rattle.writer.specs.Writing.{Writes};
 ghost use Rattle.writer.specs.declared.Written.{Written as Reached};

@@ -1,5 +1,7 @@
 // What a formula is, as far as the rules on literals and `unst` ask. The answer is by the records of the formulas table,
 // whatever they hold; the law for tables that begin with the formulas of a good body stands in proofs/Shown.
+#![tactic(auto)]
+
 ghost use Rattle.std.specs.Prelude.{◌≡◌};
 ghost use Rattle.shapes.specs.Shapes.{doubled_in, negated_in, ShapeRead};
 

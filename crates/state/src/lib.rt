@@ -1,4 +1,6 @@
 // What an accepted beginning has going besides its tables, handed in and back by value with each line.
+#![tactic(auto)]
+
 ghost use Rattle.std.specs.Prelude.{◌≡◌};
 ghost use Rattle.state.specs.State.{start, refused_by, passed_by, modelled_by, claimed_by, model_report, out_of_turn, not_next};
 

@@ -1,6 +1,8 @@
 // The rule `swap` (paper 02, M-104): L,B => R gives L,A => R, where A and B hold in the same here-and-there interpretations and have at
 // most 8 atoms together. A formula of the premise's left side that the row's lacks is the only B that can leave the sides right; where
 // there is none, each formula of the premise's left side does so, or none does.
+#![tactic(auto)]
+
 ghost use Rattle.swap.specs.Swap.{SwapNumbered};
 
 use candidates::candidates_number;

@@ -2,6 +2,8 @@
 // fetched out of its pool. Every function takes tables of any length and contents: what does not lie inside is absent, and
 // what does not fit changes nothing. The contracts are by definitions over any lists; the laws for tables that hold a file
 // stand in proofs/.
+#![tactic(auto)]
+
 pub mod names;
 pub mod records;
 

@@ -1,4 +1,6 @@
 // A whole text judged, and the rows of an accepted file told in words (paper 02, M-100).
+#![tactic(auto)]
+
 ghost use Rattle.std.specs.Prelude.{length};
 ghost use Rattle.run.specs.Lent.{five, lengths};
 ghost use Rattle.sentences.specs.Sentences.{table_sentences};

@@ -1,5 +1,7 @@
 // Runs the readers of `text` on a few fields and prints what each finds, a line for each. It assumes that standard output
 // can be written.
+#![tactic(auto)]
+
 ghost use Rattle.std.specs.Prelude.{◌≡◌, [], get_or};
 ghost use Rattle.format.specs.Text.{fields_of};
 

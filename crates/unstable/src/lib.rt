@@ -1,5 +1,7 @@
 // The rule `unst`: L => K and the refutation of (L,~~S,~S' ; E) give L => R. The atoms of L, S and its rest are words, and what is
 // asked of the formulas is read off the formulas table by their shapes.
+#![tactic(auto)]
+
 mod fixing;
 mod joins;
 

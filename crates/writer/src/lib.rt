@@ -1,6 +1,8 @@
 // Words, numbers, names and single bytes written one after the other into a lent text of any length. A writer is handed what was written
 // before and hands back what is written after it, so that a caller goes on without a test at each word: where there was no
 // room once, there is none after.
+#![tactic(auto)]
+
 pub mod names;
 
 ghost use Rattle.std.specs.Prelude.{◌≡◌, [], ◌∷◌, length, take};
