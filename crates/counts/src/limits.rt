@@ -24,4 +24,4 @@ pub const LEAST_FORMULAS: usize = NODE_WIDTH * MOST_FORMULAS;
 
 pub const LEAST_ROWS: usize = ROW_WIDTH * MOST_ROWS;
 
-pub const LEAST_NOTES: usize = 8 * MOST_FORMULAS;
+pub const LEAST_NOTES: usize = 3 * MOST_FORMULAS;
