@@ -2,7 +2,7 @@
 -- the members of the word without its lowest 1. Assumes nothing.
 use mathlib.Core.Path.{◌≡◌, refl, sym, ap, ap₂, ◌∙◌}
 use mathlib.Core.Logic.{◌↔◌, ⊎_elim}
-use mathlib.Core.Bool.{Bool, true, false, ◌&&◌, not, and_true, true≢false}
+use mathlib.Core.Bool.{Bool, true, false, ◌&&◌, not, and-true, true≢false}
 use mathlib.Core.List.Memᴰ
 use mathlib.Core.List.{List, [], ◌∷◌, Memᴰ}
 use Prim.Native.Nat.{ℕ, zero, suc, ◌+◌, ◌-◌, ◌*◌, ◌/◌, ◌%◌, ◌^◌, ◌≤◌, ◌<◌}
@@ -134,7 +134,7 @@ has_and_pred (suc k) set (suc i) p h = ⊎_elim (even (λ q. has_and_pred k (set
     odd : set % 2 ≡ 1 → has (bit_and set (set - 1) / 2) i ≡ (has (set / 2) i && not (eqb (suc i) (count_trailing_zeros (suc k) set)))
     odd e =
         let high : bit_and set (set - 1) / 2 ≡ set / 2 = omega (arith, and_pred_odd set e) in
-        simp (high, trailing_odd k set e, eqb-suc-zero, and_true)
+        simp (high, trailing_odd k set e, eqb-suc-zero, and-true)
 
 -- the members of the word without its lowest 1 are the others
 member_and_pred : (set : ℕ) → 0 < set → set < 2 ^ 64
