@@ -12,7 +12,7 @@ ghost use Rattle.counts.specs.Counts.{no_counts, count_atom, count_formula, full
 use crate::limits::{MOST_ATOMS, MOST_ENTRIES, MOST_FORMULAS, MOST_ROWS};
 
 #[repr(C)]
-#[derive(Drop)]
+#[derive(Clone, Copy)]
 pub struct Counts {
     pub atoms: usize,
     pub formulas: usize,
