@@ -2,7 +2,7 @@
 -- Assumes nothing.
 use Prim.Native.Nat.{ℕ, zero, suc, ◌+◌, ◌-◌, ◌%◌, ◌≤◌, ◌<◌, min, max}
 use mathlib.Core.Path.{◌≡◌, refl, sym, ap, ap₂, ◌∙◌}
-use mathlib.Core.Bool.{Bool, true, false, ◌&&◌, and_true, and-false}
+use mathlib.Core.Bool.{Bool, true, false, ◌&&◌, and-true, and-false}
 use mathlib.Core.List.{List, [], ◌∷◌, ◌++◌, append_assoc, append-nil}
 use mathlib.Core.Option.{some}
 use native.Mathlib.Numerals.{lt_of_le_of_ne}
@@ -102,7 +102,7 @@ module _ (first last : ℕ) (ordered : first ≤ last) (listed : Listed) (count 
           → strictly_rising (xs ++ first ∷ up_from (first + 1) (last - first)) ≡ strictly_rising xs && t
       by_test true e =
           let rises = sym (ap strictly_rising cons) ∙ rising_up first (last + 1 - first) in
-          rising_after xs first _ rises (leb-true (above xs) first e) ∙ sym (and_true (strictly_rising xs))
+          rising_after xs first _ rises (leb-true (above xs) first e) ∙ sym (and-true (strictly_rising xs))
       by_test false e = not_rising_after xs first _ (leb-false (above xs) first e) ∙ sym (and-false (strictly_rising xs))
 
   pub entered_with : (past : ℕ) → past ≡ max listed.above (last + 1) → (rising : Bool) → rising ≡ listed.rising && leb listed.above first
