@@ -2,7 +2,7 @@
 -- strictly rising lists are like. Assumes nothing.
 use Prim.Native.Nat.{ℕ, zero, suc, ◌<◌}
 use native.Mathlib.Omega.{arith}
-use mathlib.Core.Bool.{Bool, true, false, ◌||◌, or_true, and-eq-true_iff, false≢true}
+use mathlib.Core.Bool.{Bool, true, false, ◌||◌, or-true, and-eq-true_iff, false≢true}
 use mathlib.Core.List.Memᴰ
 use mathlib.Core.List.{List, [], ◌∷◌}
 use mathlib.Core.Logic.{◌⊎◌, inl, inr, ⊎_elim, ◌↔◌}
@@ -43,7 +43,7 @@ module _ {A : Type 0} (test : A → Bool) where
       from : (any test xs ≡ true) ↔ ((y : A) × (y ∈ xs) × (test y ≡ true)) → (y : A) × (y ∈ x ∷ xs) × (test y ≡ true) → any test (x ∷ xs) ≡ true
       from ih h =
           ⊎_elim (λ (e : h.0 ≡ x). ap (λ (t : Bool). t || any test xs) (ap test (sym e) ∙ h.2))
-          (λ m. ap (λ (t : Bool). test x || t) (ih.1 (h.0, m, h.2)) ∙ or_true (test x)) (Memᴰ.cases_cons h.1)
+          (λ m. ap (λ (t : Bool). test x || t) (ih.1 (h.0, m, h.2)) ∙ or-true (test x)) (Memᴰ.cases_cons h.1)
 
 pub member_iff : (x : ℕ) (xs : List ℕ) → (member x xs ≡ true) ↔ (x ∈ xs)
 unfolding member
@@ -57,7 +57,7 @@ pub member_at : (x : ℕ) (xs : List ℕ) (k : ℕ) → k < length xs → get_or
 unfolding member
 member_at x [] k l e = absurd (omega arith)
 member_at x (z ∷ zs) zero l e = ap (λ (t : Bool). t || member x zs) (eq-eqb z x e)
-member_at x (z ∷ zs) (suc k) l e = ap (λ (t : Bool). eqb z x || t) (member_at x zs k (omega arith) e) ∙ or_true (eqb z x)
+member_at x (z ∷ zs) (suc k) l e = ap (λ (t : Bool). eqb z x || t) (member_at x zs k (omega arith) e) ∙ or-true (eqb z x)
 
 pub not_member : (x : ℕ) (xs : List ℕ) → ((k : ℕ) → k < length xs → get_or xs k 0 ≡ x → ⊥) → member x xs ≡ false
 unfolding member

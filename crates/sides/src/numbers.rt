@@ -7,7 +7,7 @@ pub const NO_NUMBER: u32 = 65536;
 pub const MISSING: u32 = 65537;
 
 // At most two numbers.
-#[derive(Drop)]
+#[derive(Clone, Copy)]
 pub struct Numbers {
     pub x: u32,
     pub y: u32,
