@@ -8,7 +8,7 @@ ghost use Rattle.shapes.specs.Shapes.{doubled_in, negated_in, ShapeRead};
 use tables::records::{node, wide};
 
 // #, p, ~#, ~p, ~~p, A&B and A|B, the atoms and formulas by number; anything else.
-#[derive(Drop)]
+#[derive(Clone, Copy)]
 pub enum Shape {
     Falsum,
     Atom(usize),

@@ -11,7 +11,7 @@ ghost use Rattle.format.specs.Written.{decimal};
 ghost use Rattle.writer.specs.Writing.{Writes, front};
 
 // Written up to this byte of the lent text; or there was no room.
-#[derive(Drop)]
+#[derive(Clone, Copy)]
 pub enum Written {
     To(usize),
     NoRoom,
