@@ -8,7 +8,7 @@ use crate::records::wide;
 use counts::limits::NAME_WIDTH;
 
 // Which record has a name.
-#[derive(Drop)]
+#[derive(Clone, Copy)]
 pub enum Found {
     At(usize),
     Nowhere,

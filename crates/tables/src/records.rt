@@ -26,7 +26,7 @@ pub const OR: u16 = 4;
 pub const IMP: u16 = 5;
 
 // The record of a formula: its word and its operands.
-#[derive(Drop)]
+#[derive(Clone, Copy)]
 pub struct NodeRecord {
     pub word: u16,
     pub first: u16,
@@ -34,7 +34,7 @@ pub struct NodeRecord {
 }
 
 // The record of a row: the code of its rule, its principal formula, its first two premises, and where its sides lie.
-#[derive(Drop)]
+#[derive(Clone, Copy)]
 pub struct RowRecord {
     pub rule: u16,
     pub principal: u16,
