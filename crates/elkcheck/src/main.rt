@@ -1,144 +1,97 @@
 // Judges standard input: reads it to its end and prints refusal number, tab, line and line feed. Started with the word `words`
 // it prints the rows of an accepted file in words instead. Started with `try` and a number it opens a beginning of so many bytes, and
 // tries the row that follows it: the answer of opening, and where that is 0 a second line with the row's. If reading or writing fails
-// it says so on standard error, and a failed read leaves standard output empty: trouble never looks like a verdict. A failed write may
-// leave some sentences.
+// it ends with that error, which is said on standard error, and a failed read leaves standard output empty: trouble never looks like a
+// verdict. A failed write may leave some sentences.
 #![tactic(auto)]
 
-ghost use Rattle.std.specs.Prelude.{◌≤◌, length};
+ghost use Rattle.std.specs.Prelude.{◌≤◌, length, IfOk};
 
 use adding::OpenFile;
 use answers::Answer;
 use counts::limits::{LEAST_FORMULAS, LEAST_NAMES, LEAST_ROWS, MOST_ENTRIES};
 use govelamuth::elk_check;
-use libc::{STDIN_FILENO, STDOUT_FILENO};
 use opening::open;
 use parts::find;
+use std::env::Env;
+use std::io;
+use std::io::{Read, Write};
 use tell::tell;
 use text::numbers::{Number, read_number};
 
-// What reading brought. No bytes and no failure is the input's end.
-#[derive(Drop)]
-struct Input {
-    count: usize,
-    failed: bool,
-}
-
-fn read_some(buffer: &mut [u8]) -> Input
-    ensures { result.count ≤ length buffer.new }
-{
-    let got = libc::read(STDIN_FILENO, buffer);
-    Input {
-        count: io::count(got, buffer),
-        failed: got < 0,
-    }
-}
-
-// Reads until the buffer is full or the input ends.
-fn fill(buffer: &mut [u8]) -> Input
-    ensures { result.count ≤ length buffer.new }
+// Reads until the buffer is full or the input ends, and tells how many bytes that brought.
+fn fill<R: Read>(input: &mut R, buffer: &mut [u8]) -> io::Result<usize>
+    ensures { IfOk result (λ n. n ≤ length buffer.new) }
 {
     let mut at = 0;
     while at < buffer.len() {
-        let more = read_some(&mut buffer[at..]);
-        if more.failed {
-            return Input {
-                count: 0,
-                failed: true,
-            };
-        }
-        if more.count == 0 {
+        let more = input.read(&mut buffer[at..])?;
+        if more == 0 {
             break;
         }
-        at += more.count;
+        at += more;
     }
-    Input {
-        count: at,
-        failed: false,
-    }
+    Ok(at)
 }
 
-// Reads the rest of the input and tells whether its end was reached. A loop has to end, and nothing says that an input does:
-// so it counts its turns down, from a number that no run uses up.
-fn drain(buffer: &mut [u8]) -> bool {
-    let mut turns = u64::MAX;
-    while turns > 0 {
-        let more = read_some(buffer);
-        if more.failed {
-            return false;
+// Reads the rest of the input. A loop has to end, and nothing says that an input does: so it counts its turns, up to a number that
+// no run reaches.
+fn drain<R: Read>(input: &mut R, buffer: &mut [u8]) -> io::Result<()> {
+    for _turn in 0..u64::MAX {
+        if input.read(buffer)? == 0 {
+            return Ok(());
         }
-        if more.count == 0 {
-            return true;
-        }
-        turns -= 1;
     }
-    false
+    Err(io::Error::from(io::ErrorKind::Other))
 }
 
 // Reads the whole input and tells how many bytes of it the buffer holds. One that fills the buffer is read on to its end; the buffer
 // keeps what came first.
-fn read_all(buffer: &mut [u8]) -> Input
-    ensures { result.count ≤ length buffer.new }
+fn read_all<R: Read>(input: &mut R, buffer: &mut [u8]) -> io::Result<usize>
+    ensures { IfOk result (λ n. n ≤ length buffer.new) }
 {
-    let held = fill(buffer);
-    if held.failed {
-        return held;
-    }
-    if held.count < buffer.len() {
-        return held;
+    let held = fill(input, buffer)?;
+    if held < buffer.len() {
+        return Ok(held);
     }
     let mut rest = [0u8; 4096];
-    Input {
-        count: held.count,
-        failed: !drain(&mut rest),
-    }
+    drain(input, &mut rest)?;
+    Ok(held)
 }
 
-fn print(answer: Answer) -> bool {
-    if !io::print_decimal(STDOUT_FILENO, answer.number as u64) {
-        return false;
+fn print(rt: &impl Print, answer: Answer) -> io::Result<()> {
+    let number = answer.number;
+    let line = answer.line;
+    println!(rt; "{number}\t{line}")
+}
+
+// An argument, copied to the start of the buffer, and its length; 0 where it is missing, or longer than the buffer.
+fn argument(env: &impl Env, i: usize, buffer: &mut [u8]) -> usize
+    ensures { result ≤ length buffer.new }
+{
+    match env.arg(i, buffer) {
+        Ok(n) => n,
+        Err(_) => 0,
     }
-    if !io::write_all(STDOUT_FILENO, b"\t") {
-        return false;
-    }
-    if !io::print_decimal(STDOUT_FILENO, answer.line as u64) {
-        return false;
-    }
-    io::write_all(STDOUT_FILENO, b"\n")
 }
 
 // Whether the program was started with the word `words`.
-fn wants_words() -> bool {
+fn wants_words(env: &impl Env) -> bool {
     let mut word = [0u8; 6];
-    let length = os::arg(1, &mut word);
-    if length != 5 {
-        return false;
-    }
-    if word[0] != b'w' {
-        return false;
-    }
-    if word[1] != b'o' {
-        return false;
-    }
-    if word[2] != b'r' {
-        return false;
-    }
-    if word[3] != b'd' {
-        return false;
-    }
-    word[4] == b's'
+    let length = argument(env, 1, &mut word);
+    &word[..length] == b"words".as_slice()
 }
 
 // Prints a lent text up to the zeros after what it holds.
-fn print_held(held: &[u8]) -> bool {
+fn print_held(rt: &impl Print, held: &[u8]) -> io::Result<()> {
     let end = find(held, 0, 0);
-    io::write_all(STDOUT_FILENO, &held[..end])
+    io::writer(rt).write_all(&held[..end])
 }
 
 // The most bytes of sentences that are printed: 1 MiB.
 const MOST_PRINTED: usize = 1048576;
 
-fn print_words(text: &[u8]) -> bool {
+fn print_words(rt: &impl Print, text: &[u8]) -> io::Result<()> {
     let mut names = [0u16; LEAST_NAMES];
     let mut formulas = [0u16; LEAST_FORMULAS];
     let mut rows = [0u16; LEAST_ROWS];
@@ -155,32 +108,23 @@ fn print_words(text: &[u8]) -> bool {
         &mut words,
     );
     if answer.number != 0 {
-        return print(answer);
+        return print(rt, answer);
     }
-    print_held(&words)
+    print_held(rt, &words)
 }
 
 // Whether the program was started with the word `try`.
-fn wants_trial() -> bool {
+fn wants_trial(env: &impl Env) -> bool {
     let mut word = [0u8; 4];
-    let length = os::arg(1, &mut word);
-    if length != 3 {
-        return false;
-    }
-    if word[0] != b't' {
-        return false;
-    }
-    if word[1] != b'r' {
-        return false;
-    }
-    word[2] == b'y'
+    let length = argument(env, 1, &mut word);
+    &word[..length] == b"try".as_slice()
 }
 
 // The number that the second word is. One of over five digits counts as the most of five, since both are longer than any text; so does a
 // word that is no number, or is missing.
-fn beginning_length() -> usize {
+fn beginning_length(env: &impl Env) -> usize {
     let mut word = [0u8; 5];
-    let length = os::arg(2, &mut word);
+    let length = argument(env, 2, &mut word);
     let number = read_number(&word[..length]);
     match number {
         Number::Value(n) => n as usize,
@@ -189,7 +133,7 @@ fn beginning_length() -> usize {
 }
 
 // The answer to a beginning and, where that is 0, the answer to the row.
-fn print_both(beginning: &[u8], row: &[u8]) -> bool {
+fn print_both(rt: &impl Print, beginning: &[u8], row: &[u8]) -> io::Result<()> {
     let mut names = [0u16; LEAST_NAMES];
     let mut formulas = [0u16; LEAST_FORMULAS];
     let mut rows = [0u16; LEAST_ROWS];
@@ -204,45 +148,36 @@ fn print_both(beginning: &[u8], row: &[u8]) -> bool {
         &mut right,
     );
     let answer = opened.answer;
-    if !print(answer) {
-        return false;
-    }
+    print(rt, answer)?;
     if answer.number != 0 {
-        return true;
+        return Ok(());
     }
     let counts = opened.counts;
     let file = OpenFile { counts };
-    print(file.preview(row, &formulas, &rows, &left, &right))
+    print(rt, file.preview(row, &formulas, &rows, &left, &right))
 }
 
 // A text of a beginning, of so many bytes, and a row.
-fn print_trial(text: &[u8], length: usize) -> bool {
+fn print_trial(rt: &impl Print, text: &[u8], length: usize) -> io::Result<()> {
     if text.len() < length {
-        return print_both(text, &text[..0]);
+        return print_both(rt, text, &text[..0]);
     }
-    print_both(&text[..length], &text[length..])
+    print_both(rt, &text[..length], &text[length..])
 }
 
-fn answer(text: &[u8]) -> bool {
-    if wants_words() {
-        return print_words(text);
+fn answer<R: Print + Env>(rt: &R, text: &[u8]) -> io::Result<()> {
+    if wants_words(rt) {
+        return print_words(rt, text);
     }
-    if wants_trial() {
-        return print_trial(text, beginning_length());
+    if wants_trial(rt) {
+        return print_trial(rt, text, beginning_length(rt));
     }
-    print(elk_check(text))
+    print(rt, elk_check(text))
 }
 
 // The buffer has room for two texts, each with one byte more than a text may have, so that one which is cut off is judged too long.
-fn main() {
+fn main(rt: HostRuntime) -> io::Result<()> {
     let mut buffer = [0u8; 131074];
-    let text = read_all(&mut buffer);
-    let n = text.count;
-    if text.failed {
-        os::fail(b"elkcheck: standard input");
-        return;
-    }
-    if !answer(&buffer[..n]) {
-        os::fail(b"elkcheck: standard output");
-    }
+    let n = read_all(&mut rt.stdin(), &mut buffer)?;
+    answer(&rt, &buffer[..n])
 }

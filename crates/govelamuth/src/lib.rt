@@ -1,4 +1,4 @@
-// The calls for C, each under its C name: a slice is a pointer and a length. `include/govelamuth.h` has their promises.
+// The calls on whole texts, each under its C name. `include/govelamuth.h` has their promises; `govelamuth_c` exports them.
 #![tactic(auto)]
 
 ghost use Rattle.std.specs.Prelude.{length};
@@ -12,8 +12,7 @@ use judge::judge;
 use tell::tell;
 
 // The answer to a text, with tables of its own.
-#[unsafe(no_mangle)]
-pub extern "C" fn elk_check(text: &[u8]) -> Answer
+pub fn elk_check(text: &[u8]) -> Answer
     ensures { Checks text.now result }
 {
     let mut names = [0u16; LEAST_NAMES];
@@ -33,8 +32,7 @@ pub extern "C" fn elk_check(text: &[u8]) -> Answer
 }
 
 // The same, with the accepted file in the lent tables.
-#[unsafe(no_mangle)]
-pub extern "C" fn elk_judge(
+pub fn elk_judge(
     text: &[u8],
     names: &mut [u16],
     formulas: &mut [u16],
@@ -50,8 +48,7 @@ pub extern "C" fn elk_judge(
 }
 
 // The same, with the rows of the accepted file in words in the lent text.
-#[unsafe(no_mangle)]
-pub extern "C" fn elk_words(
+pub fn elk_words(
     text: &[u8],
     names: &mut [u16],
     formulas: &mut [u16],
