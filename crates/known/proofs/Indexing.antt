@@ -4,10 +4,9 @@ use native.Mathlib.Decide.{dec_lt, ℕ_discrete}
 use native.Mathlib.Omega.{arith}
 use mathlib.Core.Bool.{Bool, true, false, cond, ◌||◌}
 use mathlib.Core.List.{List, [], ◌∷◌, ◌++◌}
-use mathlib.Core.Logic.{◌⊎◌, ⊎_elim}
 use mathlib.Core.Option.{none, some}
 use mathlib.Core.Path.{◌≡◌, refl, sym, ap, ap₂, subst, ◌∙◌}
-use borrow.Author.Tests.{lt-leb, leb-false}
+use borrow.Author.Tests.{lt-leb}
 use lib.Dec.{leb}
 use lib.ListN.{length, get_or, set, length-append, length-set}
 use lib.Seq.{get_or_at, get_or-set_same, get_or-set_other}
@@ -16,7 +15,6 @@ use Rattle.format.specs.File.{Node}
 use Rattle.format.specs.Tables.{node_record}
 use Rattle.tables.specs.Records.{node_at, record_from, record_numbers}
 use Rattle.tables.specs.Holding.{HoldsNodes}
-use Rattle.known.specs.Literals.{positive_notes}
 use Rattle.known.specs.Index.{slot_notes, formula_notes, slot_of, slot_at, Last, Indexed, entered, NodeFound}
 use Rattle.format.proofs.Equal.{same_false}
 use Rattle.tables.proofs.Encoded.{node_held}
@@ -109,20 +107,13 @@ index_none notes zeros =
     }
 
 -- notes of which those of the index are the same
-pub index_kept : (nodes : List Node) (notes notes' : List ℕ) → Indexed nodes notes
-    → ((k : ℕ) → slot_notes ≤ k → k < positive_notes → get_or notes' k 0 ≡ get_or notes k 0) → Indexed nodes notes'
-index_kept nodes notes notes' index same =
+pub index_kept : (nodes : List Node) (notes : List ℕ) → Indexed nodes notes → (k x : ℕ) → k < slot_notes → Indexed nodes (set notes k x)
+index_kept nodes notes index k x h =
     record {
       few = index.few;
-      slots = λ s l. subst (Last nodes s (length nodes)) (sym (same (slot_notes + s) (omega arith) (omega arith))) (index.slots s l);
-      formulas = λ i l.
-          subst (Last nodes (slot_at nodes i) i) (sym (same (formula_notes + i) (omega arith) (omega (arith, index.few)))) (index.formulas i l);
+      slots = λ s l. subst (Last nodes s (length nodes)) (sym (get_or-set_other notes k (slot_notes + s) x 0 (λ e. omega arith))) (index.slots s l);
+      formulas = λ i l. subst (Last nodes (slot_at nodes i) i) (sym (get_or-set_other notes k (formula_notes + i) x 0 (λ e. omega arith))) (index.formulas i l);
     }
-
-pub node_before : (xs : List Node) (m : Node) (i : ℕ) → i < length xs → get_or (xs ++ m ∷ []) i Node.bot ≡ get_or xs i Node.bot
-node_before [] m i h = absurd (omega arith)
-node_before (x ∷ xs) m zero h = refl
-node_before (x ∷ xs) m (suc i) h = node_before xs m i (omega arith)
 
 module _ (nodes : List Node) (m : Node) where
   abbrev more : List Node
@@ -131,8 +122,13 @@ module _ (nodes : List Node) (m : Node) where
   longer : length more ≡ length nodes + 1
   longer = length-append nodes (m ∷ [])
 
+  same_before : (xs : List Node) (i : ℕ) → i < length xs → get_or (xs ++ m ∷ []) i Node.bot ≡ get_or xs i Node.bot
+  same_before [] i h = absurd (omega arith)
+  same_before (x ∷ xs) zero h = refl
+  same_before (x ∷ xs) (suc i) h = same_before xs i (omega arith)
+
   slot_before : (i : ℕ) → i < length nodes → slot_at more i ≡ slot_at nodes i
-  slot_before i h = ap (λ (n : Node). slot_of (node_record n)) (node_before nodes m i h)
+  slot_before i h = ap (λ (n : Node). slot_of (node_record n)) (same_before nodes i h)
 
   slot_last : slot_at more (length nodes) ≡ slot_of (node_record m)
   slot_last = ap (λ (n : Node). slot_of (node_record n)) (get_or_at nodes m [] Node.bot (length nodes) refl)
@@ -146,7 +142,7 @@ module _ (nodes : List Node) (m : Node) where
         of_slot = λ i e. slot_before i (omega (arith, last.within)) ∙ last.of_slot i e;
       }
 
-  module _ (notes : List ℕ) (index : Indexed nodes notes) (room : length nodes < 1024) (long : positive_notes ≤ length notes) where
+  module _ (notes : List ℕ) (index : Indexed nodes notes) (room : length nodes < 1024) (long : 3072 ≤ length notes) where
     abbrev place : ℕ
     place = slot_notes + slot_of (node_record m)
 
@@ -207,7 +203,7 @@ module _ (nodes : List Node) (m : Node) where
           formulas = λ i h. formula_now i h (dec_lt i (length nodes));
         })
 
--- entering a formula changes no length, and no note but those of the index
+-- entering a formula changes no length, and no note before those of the index
 module _ (notes : List ℕ) (i : ℕ) (numbers : List ℕ) where
   abbrev slot : ℕ
   slot = slot_notes + slot_of numbers
@@ -222,12 +218,10 @@ module _ (notes : List ℕ) (i : ℕ) (numbers : List ℕ) where
       either true = refl
       either false = simp length-set
 
-  pub entered_beside : (k : ℕ) → (k < slot_notes) ⊎ (positive_notes ≤ k) → get_or (entered notes i numbers) k 0 ≡ get_or notes k 0
-  entered_beside k h = either (leb 1024 i) refl
+  pub entered_before : (k : ℕ) → k < slot_notes → get_or (entered notes i numbers) k 0 ≡ get_or notes k 0
+  entered_before k h = either (leb 1024 i)
     where
-      either : (b : Bool) → leb 1024 i ≡ b → get_or (cond b notes (set chained slot (i + 1))) k 0 ≡ get_or notes k 0
-      either true e = refl
-      either false e =
-          let few : i < 1024 = leb-false 1024 i e in
-          get_or-set_other chained slot k (i + 1) 0 (λ e. ⊎_elim (λ l. omega arith) (λ l. omega arith) h)
-          ∙ get_or-set_other notes (formula_notes + i) k (get_or notes slot 0) 0 (λ e. ⊎_elim (λ l. omega arith) (λ l. omega arith) h)
+      either : (b : Bool) → get_or (cond b notes (set chained slot (i + 1))) k 0 ≡ get_or notes k 0
+      either true = refl
+      either false =
+          get_or-set_other chained slot k (i + 1) 0 (λ e. omega arith) ∙ get_or-set_other notes (formula_notes + i) k (get_or notes slot 0) 0 (λ e. omega arith)

@@ -9,7 +9,6 @@ use Rattle.atomset.specs.AtomSet.{has}
 use Rattle.tables.specs.Records.{written, record_numbers}
 use Rattle.tables.specs.Holding.{HoldsNodes}
 use Rattle.known.specs.Index.{entered, Indexed, NodeFound}
-use Rattle.known.specs.Literals.{words_by, with_words, with_negation}
 use Rattle.known.specs.Known.{occurs_by}
 use Rattle.known.specs.declared.Entry.{Entry}
 use Rattle.tables.specs.declared.records.NodeRecord.{NodeRecord}
@@ -26,12 +25,12 @@ with_new formulas count key (Entry.Held i) = formulas
 with_new formulas count key (Entry.New i) = written formulas (node_width * count) (record_numbers key)
 with_new formulas count key Entry.Full = formulas
 
--- tables with one formula more: its record after the others, its atoms, its words, what it negates, and its place in the index
+-- tables with one formula more: its record after the others, its atoms, and its place in the index
 pub record Appended (formulas notes : List ℕ) (count : ℕ) (key : NodeRecord) (formulas' notes' : List ℕ) : Type 0 where
   pub atoms : ℕ
   pub atoms_are : (p : ℕ) → has atoms p ≡ occurs_by notes key p
   pub put : formulas' ≡ written formulas (node_width * count) (record_numbers key)
-  pub noted : notes' ≡ entered (with_negation (with_words (set notes count atoms) count (words_by notes key)) count key) count (record_numbers key)
+  pub noted : notes' ≡ entered (set notes count atoms) count (record_numbers key)
 
 -- A formula that is held already, or for which there is no room, changes nothing; a new one is appended.
 pub data Enters (formulas notes : List ℕ) (count : ℕ) (key : NodeRecord) (formulas' notes' : List ℕ) : Entry → Type 0 where

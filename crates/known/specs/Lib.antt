@@ -1,5 +1,3 @@
-pub mod Joins
-pub mod Literals
 pub mod Index
 pub mod Known
 pub mod Entering

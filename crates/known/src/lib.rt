@@ -3,13 +3,11 @@
 
 mod atoms;
 pub mod index;
-pub mod literals;
 
 ghost use Rattle.known.specs.Entering.{with_new, FormulaEntered};
 
 use crate::atoms::record_atoms;
 use crate::index::{Located, enter_node, find_node, put_note};
-use crate::literals::{put_negation, put_words, record_words};
 use counts::limits::MOST_FORMULAS;
 use tables::records::{NodeRecord, put_node};
 
@@ -36,10 +34,7 @@ pub fn note_formula(formulas: &[u16], notes: &mut [u64], count: usize, key: Node
         }
         Located::Nowhere => {}
     }
-    let words = record_words(notes, key);
     put_note(notes, count, record_atoms(notes, key));
-    put_words(notes, count, words);
-    put_negation(notes, count, key);
     enter_node(notes, count, key);
     Entry::New(count)
 }

@@ -1,21 +1,21 @@
 -- The rule table as one list, each rule where its code says, and the numbers of a rule as digits of one number.
 use Prim.Native.Nat.{ℕ, zero, suc, ◌+◌, ◌*◌, ◌-◌, ◌/◌, ◌%◌, ◌^◌, ◌≤◌, ◌<◌}
-use native.Mathlib.Decide.{ℕ_discrete, dec_le, dec_lt}
+use native.Mathlib.Decide.{dec_lt}
 use native.Mathlib.Nat.{pow-succ', div-div-eq-div-mul, zero-div}
 use native.Mathlib.Omega.{arith}
 use mathlib.Core.Bool.{Bool, true, false, ◌&&◌, false≢true}
 use mathlib.Core.List.{List, [], ◌∷◌, map}
 use mathlib.Core.Logic.{◌⊎◌, inl, inr}
-use mathlib.Core.Path.{◌≡◌, refl, sym, ap, subst, ◌∙◌}
+use mathlib.Core.Path.{◌≡◌, refl, sym, ap, ◌∙◌}
 use lib.Dec.{eqb, ltb}
 use lib.ListN.{length, get_or, drop}
-use borrow.Author.Tests.{eqb-true, ltb-true, le-leb, lt-leb, eq-eqb, ne_eqb}
+use borrow.Author.Tests.{eqb-true, ltb-true, le-leb, lt-leb}
 use Rattle.equilibrium.proofs.Sets.{dec_all, from_yes}
 use Rattle.format.specs.Text.{all}
 use Rattle.format.proofs.Booleans.{and_true}
 use Rattle.elk.specs.Rules.{Rule, rules, code_of, entry}
 use Rattle.elk.proofs.RuleCodes.{at_code, every_rule}
-use Rattle.rules.specs.RuleTable.{step_number, rule_numbers, packed_from, packed_rules, count_of_numbers, number_in, rule_number}
+use Rattle.rules.specs.RuleTable.{step_number, rule_numbers, packed_from, packed_rules, count_of_numbers, rule_number}
 
 -- the numbers of a code: those of a rule, or none
 abbrev numbers_at : ℕ → List ℕ
@@ -165,17 +165,3 @@ module _ (code : ℕ) where
   pub no_place : (at : ℕ) → count_of_numbers ≤ at → rule_number code at ≡ 255
   unfolding rule_number
   no_place at h = rw (le-leb count_of_numbers at h)
-
-  -- so they are read off its packed numbers
-  pub number_read : (at : ℕ) → number_in (get_or packed_rules code 0) at ≡ rule_number code at
-  unfolding number_in
-  number_read at = by (dec_le count_of_numbers at) (ℕ_discrete at 0)
-    where
-      by : Dec (count_of_numbers ≤ at) → Dec (at ≡ 0) → number_in (get_or packed_rules code 0) at ≡ rule_number code at
-      by (yes h) z = rw (le-leb count_of_numbers at h) (sym (no_place at h))
-      by (no n) (yes z) = rw (lt-leb count_of_numbers at (omega arith), eq-eqb at 0 z) (first_read ∙ ap (rule_number code) (sym z))
-      by (no n) (no z) = rw (lt-leb count_of_numbers at (omega arith), ne_eqb at 0 z) (later_read at (omega arith) z)
-
-  -- past the first, each is an octal digit
-  pub small_number : (at : ℕ) → at < count_of_numbers → (at ≡ 0 → ⊥) → rule_number code at < 8
-  small_number at h n = subst (λ (k : ℕ). k < 8) (later_read at h n) (omega arith)

@@ -1,5 +1,5 @@
 -- The rule table of crate elk as numbers: eighteen for each rule, in the order of the rules' codes.
-use Rattle.std.specs.Prelude.{ℕ, ◌+◌, ◌*◌, ◌-◌, ◌/◌, ◌%◌, ◌^◌, Bool, true, false, cond, List, [], ◌∷◌, ◌++◌, map, eqb, leb, length, get_or, replicate}
+use Rattle.std.specs.Prelude.{ℕ, ◌+◌, ◌*◌, Bool, true, false, cond, List, [], ◌∷◌, ◌++◌, map, leb, length, get_or, replicate}
 use Rattle.format.specs.Tables.{join_all}
 use Rattle.elk.specs.Sequent.{Kind, elk, refutation}
 use Rattle.elk.specs.Rules.{
@@ -132,9 +132,3 @@ count_of_numbers = 18
 -- one of the numbers of the rule that has the code: 0 where no rule has it, 255 at a place that no rule has
 unfoldable pub rule_number : ℕ → ℕ → ℕ
 rule_number code at = cond (leb count_of_numbers at) 255 (get_or (get_or (map rule_numbers rules) code []) at 0)
-
--- the number at a place of those that octal digits hold, of which the first has two; 255 at a place that no rule has
-unfoldable pub number_in : ℕ → ℕ → ℕ
-number_in numbers at =
-    cond (leb count_of_numbers at) 255 (
-    cond (eqb at 0) (numbers / 2 ^ (3 * (count_of_numbers - 1)) % 256) (numbers / 2 ^ (3 * (count_of_numbers - 1 - at)) % 8))

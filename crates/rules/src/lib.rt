@@ -3,7 +3,7 @@
 #![tactic(auto)]
 
 ghost use Rattle.std.specs.Prelude.{◌≡◌, get_or};
-ghost use Rattle.rules.specs.RuleTable.{packed_rules, number_in, rule_number};
+ghost use Rattle.rules.specs.RuleTable.{packed_rules, rule_number};
 
 // The places of a rule's numbers: how it is judged, its kind, whether it has a principal formula, the count of its premises
 // and their kinds.
@@ -27,14 +27,14 @@ const NUMBERS: usize = 18;
 
 const LAST: usize = NUMBERS - 1;
 
-// The numbers of a rule in their order, as octal digits, of which the first number has two; 0 where there is no such rule:
+// The numbers of a rule in their order, as octal digits, of which the first number has two:
 // - how it is judged: by the form of its principal formula (0 #, 1 any, 2 ~, 3 &, 4 |, 5 ->, 6 ~~, 7 ~&, 10 ~|, 11 ~->), or as
 //   one that is written out (12 def, 13 rcut, 14 unst, 15 xini, 16 swap);
 // - its kind (0 ELK, 1 refutation), a principal formula or none (1, 0), the count of its premises, and their kinds (2 where
 //   there is none);
 // - what is added to each side (1 the principal formula, 2 A, 3 B, 4 ~A, 5 ~B, 0 nothing).
 // This is a `match` since a `const` table would be built anew at each call.
-pub fn numbers_of(rule: u16) -> u64
+fn packed(rule: u16) -> u64
     ensures { result ≡ get_or packed_rules rule 0 }
 {
     match rule {
@@ -80,23 +80,17 @@ pub fn numbers_of(rule: u16) -> u64
     }
 }
 
-// One of the numbers that octal digits hold, of which the first has two; 255 at a place that no rule has.
-pub fn number_in(numbers: u64, at: usize) -> u8
-    ensures { result ≡ number_in numbers at }
+// One of a rule's numbers; 0 where there is no such rule, 255 at a place that no rule has.
+pub fn rule_number(rule: u16, at: usize) -> u8
+    ensures { result ≡ rule_number rule at }
 {
     if at >= NUMBERS {
         return 255;
     }
+    let numbers = packed(rule);
     let from = numbers >> (3 * (LAST - at));
     if at == STEP {
         return (from % 256) as u8;
     }
     (from % 8) as u8
-}
-
-// One of a rule's numbers; 0 where there is no such rule, 255 at a place that no rule has.
-pub fn rule_number(rule: u16, at: usize) -> u8
-    ensures { result ≡ rule_number rule at }
-{
-    number_in(numbers_of(rule), at)
 }

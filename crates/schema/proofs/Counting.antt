@@ -12,30 +12,31 @@ use Rattle.sides.specs.Members.{AllRise}
 use Rattle.sides.specs.Numbers.{numbers_of, number_side}
 use Rattle.sides.specs.declared.numbers.Numbers.{Numbers}
 use Rattle.sides.proofs.SharedSides.{shared_one}
-use Rattle.schema.specs.Additions.{added_from, side_in, sides_in}
+use Rattle.schema.specs.Additions.{added_in, side_in, sides_in}
+use Rattle.schema.specs.declared.parts.Parts.{Parts}
 
-module _ (parts : List ℕ) (rule place : ℕ) (side : List ℕ) where
+module _ (formulas : List ℕ) (p : Parts) (rule place : ℕ) (side : List ℕ) where
   abbrev Here : Numbers → Type 0
-  Here here = here ≡ added_from parts rule place
+  Here here = here ≡ added_in formulas side p rule place
 
   pub alone :
       {here : Numbers} {r : Bool} → Here here → Decides (numbers_of here ⊆ side) r
-      → DecidesIf (AllRise (side ∷ [])) (Shared (side_in parts rule place side ∷ [])) r
+      → DecidesIf (AllRise (side ∷ [])) (Shared (side_in formulas p rule place side ∷ [])) r
   alone {r = r} h d =
-      let shared = shared_one (side_in parts rule place side) in
+      let shared = shared_one (side_in formulas p rule place side) in
       let decided = subst (λ (k : Numbers). Decides (numbers_of k ⊆ side) r) h d in
       record { sound = λ t. shared.0 (decided.sound t); complete = λ g k. decided.complete (shared.1 k) }
 
   module _ (one two : List ℕ) where
     -- the answer to whether the sides, each with what is added to it, share a set
     abbrev Answers : ℕ → Bool → Type 0
-    Answers n r = DecidesIf (AllRise (side ∷ take n (one ∷ two ∷ []))) (Shared (sides_in parts rule n place side one two)) r
+    Answers n r = DecidesIf (AllRise (side ∷ take n (one ∷ two ∷ []))) (Shared (sides_in formulas p rule n place side one two)) r
 
     abbrev AtOne : Numbers → Type 0
-    AtOne at_one = at_one ≡ added_from parts rule (place + 2)
+    AtOne at_one = at_one ≡ added_in formulas one p rule (place + 2)
 
     abbrev AtTwo : Numbers → Type 0
-    AtTwo at-two = at-two ≡ added_from parts rule (place + 4)
+    AtTwo at-two = at-two ≡ added_in formulas two p rule (place + 4)
 
     pub with_one :
         {here at_one : Numbers} {r : Bool} → Here here → AtOne at_one

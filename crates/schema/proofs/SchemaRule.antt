@@ -24,21 +24,8 @@ use Rattle.rules.proofs.RuleNumbers.{rule_number_lem}
 use Rattle.sides.specs.Deciding.{DecidesIf}
 use Rattle.sides.specs.Members.{AllRise}
 use Rattle.sides.proofs.Deciding.{no_if, denied_if, iff_if}
-use Rattle.schema.specs.Additions.{parts_listed, side_in, sides_in}
-use Rattle.schema.specs.SchemaRows.{
-  Sides,
-  Handed,
-  SidesRise,
-  SidesShared,
-  parts_handed,
-  SchemaSides,
-  SidesAnswer,
-  sequent_with,
-  premises_handed,
-  OfBody,
-  InstanceHanded,
-  SchemaAnswer,
-}
+use Rattle.schema.specs.Additions.{side_in, sides_in}
+use Rattle.schema.specs.SchemaRows.{Sides, Handed, SidesRise, parts_handed, SchemaSides, sequent_with, premises_handed, OfBody, InstanceHanded, SchemaAnswer}
 use Rattle.schema.specs.declared.parts.Parts.{Parts}
 use Rattle.schema.proofs.Apart.{PartsOf, parts_read, parts_whole}
 use Rattle.schema.proofs.Standing.{parts_at, two_parts, KnownParts, meant_by, added_stands}
@@ -91,15 +78,12 @@ all_stand b held (suc zero) h u v w = (u, (v (omega arith), tt))
 all_stand b held (suc (suc zero)) h u v w = (u, (v (omega arith), (w (omega arith), tt)))
 all_stand b held (suc (suc (suc n))) h u v w = absurd (omega arith)
 
-module _ {b : Body} {s : Rule} {t : Schema} {formulas notes : List ℕ} {h : Handed} (o : OfBody b s t formulas notes h) where
+module _ {b : Body} {s : Rule} {t : Schema} {formulas : List ℕ} {h : Handed} (o : OfBody b s t formulas h) where
   abbrev held : Held b
   held = good_held o.held.good
 
   abbrev parts : Parts
   parts = parts_handed h formulas
-
-  abbrev numbers : List ℕ
-  numbers = parts_listed notes parts
 
   few : h.count < 3
   few = omega (arith, o.count, two_at_most s, ap (λ (e : Entry). length (premise_kinds e)) o.rule, length-map t.premises (λ p. t.kind))
@@ -127,11 +111,11 @@ module _ {b : Body} {s : Rule} {t : Schema} {formulas notes : List ℕ} {h : Han
     -- a side of numbers stands for its formulas, with what the rule adds at the place
     side_at :
         (place : ℕ) → place < 6 → (xs : List ℕ) → unknown_formula b xs ≡ false → {ps : List Part} → parts_at s place ≡ ps
-        → SideStands b held (side_in numbers h.rule place xs) (side_of xs ps)
+        → SideStands b held (side_in formulas parts h.rule place xs) (side_of xs ps)
     side_at place l xs known e =
-        subst (λ (qs : List Part). SideStands b held (side_in numbers h.rule place xs) (side_of xs qs)) e (
+        subst (λ (qs : List Part). SideStands b held (side_in formulas parts h.rule place xs) (side_of xs qs)) e (
         side_stands b held xs known (map m (parts_at s place)) _ (omega (arith, length-map (parts_at s place) m, two_parts s place l))
-        (added_stands held o.known xs known parts known_parts s h.rule o.code place l))
+        (added_stands o.held xs known parts known_parts s h.rule o.code place l))
 
     -- what the rule adds at a place, by its line of the table
     at_place : (place : ℕ) → parts_at s place ≡ get_or (added_sides (schema t)) place []
@@ -144,7 +128,7 @@ module _ {b : Body} {s : Rule} {t : Schema} {formulas notes : List ℕ} {h : Han
     additions = t.conclusion ∷ t.premises
 
     abbrev left_numbers : List (Side ℕ)
-    left_numbers = sides_in numbers h.rule h.count 0 h.row.left h.one.left h.two.left
+    left_numbers = sides_in formulas parts h.rule h.count 0 h.row.left h.one.left h.two.left
 
     left_sides : Shared left_numbers ↔ Shared (lefts m rows additions)
     left_sides =
@@ -156,7 +140,7 @@ module _ {b : Body} {s : Rule} {t : Schema} {formulas notes : List ℕ} {h : Han
         (λ l. side_at 4 (omega arith) h.two.left (o.two l).left (at_place 4))))
 
     abbrev right_numbers : List (Side ℕ)
-    right_numbers = sides_in numbers h.rule h.count 1 h.row.right h.one.right h.two.right
+    right_numbers = sides_in formulas parts h.rule h.count 1 h.row.right h.one.right h.two.right
 
     right_sides : Shared right_numbers ↔ Shared (rights m rows additions)
     right_sides =
@@ -182,54 +166,55 @@ module _ {b : Body} {s : Rule} {t : Schema} {formulas notes : List ℕ} {h : Han
     instance_iff = subst (λ (i : ℕ). instance_at i ↔ test_of) whole (schema_iff (subst fits_at (sym whole) (read.fits fits)))
 
   -- the test on numbers is the rule on their formulas
-  pub schema_rule : SchemaSides h formulas notes ↔ InstanceHanded b t h
+  pub schema_rule : SchemaSides h formulas ↔ InstanceHanded b t h
   schema_rule = (to, λ i. from i parts.fits refl)
     where
-      to : SchemaSides h formulas notes → InstanceHanded b t h
+      to : SchemaSides h formulas → InstanceHanded b t h
       to k =
           (instance_iff k.fits).1 (record {
             counted = (refl, counted b.nodes t.kind h.one h.two h.count t.premises o.count few);
-            left = (left_sides k.fits).0 k.sides.left;
-            right = (right_sides k.fits).0 k.sides.right;
+            left = (left_sides k.fits).0 k.left;
+            right = (right_sides k.fits).0 k.right;
           })
 
-      from : InstanceHanded b t h → (f : Bool) → parts.fits ≡ f → SchemaSides h formulas notes
+      from : InstanceHanded b t h → (f : Bool) → parts.fits ≡ f → SchemaSides h formulas
       from i true e =
           let test = (instance_iff e).0 i in
-          record { fits = e; sides = record { left = (left_sides e).1 test.left; right = (right_sides e).1 test.right } }
+          record { fits = e; left = (left_sides e).1 test.left; right = (right_sides e).1 test.right }
       from i false e = absurd (read.misfit e i.first i.second i.fits)
 
 -- an answer by the numbers is one by the calculus, where the table holds a body
-module _ (formulas notes : List ℕ) (h : Handed) where
-  answered : {r : Bool} → DecidesIf (SidesRise h) (SchemaSides h formulas notes) r → SchemaAnswer formulas notes h r
+module _ (formulas : List ℕ) (h : Handed) where
+  answered : {r : Bool} → DecidesIf (SidesRise h) (SchemaSides h formulas) r → SchemaAnswer formulas h r
   answered d = record { numbers = d; instances = λ b s t o. iff_if (schema_rule o) d }
 
   -- the answers of the tests as they run, with the parts that were read
   module _ {p : Parts} (same : p ≡ parts_handed h formulas) where
-    pub misfit_answered : p.fits ≡ false → SchemaAnswer formulas notes h false
+    abbrev left_fits : Parts → Type 0
+    left_fits q = Shared (sides_in formulas q h.rule h.count 0 h.row.left h.one.left h.two.left)
+
+    abbrev right_fits : Parts → Type 0
+    right_fits q = Shared (sides_in formulas q h.rule h.count 1 h.row.right h.one.right h.two.right)
+
+    abbrev LeftAnswer : Bool → Type 0
+    LeftAnswer r = DecidesIf (AllRise (h.row.left ∷ take h.count (h.one.left ∷ h.two.left ∷ []))) (left_fits p) r
+
+    abbrev RightAnswer : Bool → Type 0
+    RightAnswer r = DecidesIf (AllRise (h.row.right ∷ take h.count (h.one.right ∷ h.two.right ∷ []))) (right_fits p) r
+
+    pub misfit_answered : p.fits ≡ false → SchemaAnswer formulas h false
     misfit_answered e = answered (no_if (λ g k. false≢true (sym e ∙ ap (λ (q : Parts). q.fits) same ∙ k.fits)))
 
-    pub sides_answered : p.fits ≡ true → {r : Bool} → SidesAnswer (parts_listed notes p) h r → SchemaAnswer formulas notes h r
-    sides_answered f d =
+    pub left_answered : {l : Bool} → LeftAnswer l → l ≡ false → SchemaAnswer formulas h false
+    left_answered d e = answered (no_if (λ g k. denied_if d e g.left (subst left_fits (sym same) k.left)))
+
+    pub right_answered : p.fits ≡ true → {l r : Bool} → LeftAnswer l → l ≡ true → RightAnswer r → SchemaAnswer formulas h r
+    right_answered f dl e dr =
         answered (record {
-          sound = λ t. record { fits = sym (ap (λ (q : Parts). q.fits) same) ∙ f; sides = subst Asked same (d.sound t) };
-          complete = λ g k. d.complete g (subst Asked (sym same) k.sides);
+          sound = λ t. record {
+            fits = sym (ap (λ (q : Parts). q.fits) same) ∙ f;
+            left = subst left_fits same (dl.sound e);
+            right = subst right_fits same (dr.sound t);
+          };
+          complete = λ g k. dr.complete g.right (subst right_fits (sym same) k.right);
         })
-      where
-        Asked : Parts → Type 0
-        Asked q = SidesShared h (parts_listed notes q)
-
--- the left sides are judged first, then the right ones
-module _ {parts : List ℕ} {h : Handed} {l : Bool}
-    (lefts-fit : DecidesIf (AllRise (h.row.left ∷ take h.count (h.one.left ∷ h.two.left ∷ [])))
-    (Shared (sides_in parts h.rule h.count 0 h.row.left h.one.left h.two.left)) l) where
-  pub left_answered : l ≡ false → SidesAnswer parts h false
-  left_answered e = no_if (λ g k. denied_if lefts-fit e g.left k.left)
-
-  pub right_answered :
-      l ≡ true → {r : Bool}
-      → DecidesIf (AllRise (h.row.right ∷ take h.count (h.one.right ∷ h.two.right ∷ [])))
-      (Shared (sides_in parts h.rule h.count 1 h.row.right h.one.right h.two.right)) r
-      → SidesAnswer parts h r
-  right_answered e d =
-      record { sound = λ t. record { left = lefts-fit.sound e; right = d.sound t }; complete = λ g k. d.complete g.right k.right }

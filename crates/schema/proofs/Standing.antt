@@ -1,33 +1,35 @@
--- Numbers that stand for formulas on a side, in a body with what is known of its formulas: the negation of a formula, and what a rule
--- adds.
-use Prim.Native.Nat.{ℕ, zero, suc, ◌+◌, ◌*◌, ◌-◌, ◌%◌, ◌≤◌, ◌<◌}
+-- Numbers that stand for formulas on a side, in a table that holds a body: the negation of a formula looked for there, and what a
+-- rule adds.
+use Prim.Native.Nat.{ℕ, zero, suc, ◌+◌, ◌*◌, ◌≤◌, ◌<◌}
 use native.Mathlib.Decide.{ℕ_discrete, dec_le}
 use native.Mathlib.Omega.{arith}
-use mathlib.Core.Bool.{false, cond}
+use mathlib.Core.Bool.{false, and-false}
 use mathlib.Core.List.Memᴰ
 use mathlib.Core.List.{List, [], ◌∷◌, map}
-use mathlib.Core.Logic.{◌⊎◌, inl, inr}
+use mathlib.Core.Logic.{◌⊎◌, inl, inr, ⊎_elim}
 use mathlib.Core.Path.{◌≡◌, refl, sym, ap, ap₂, subst, ◌∙◌}
-use lib.Dec.{eqb, eqb-suc-zero}
-use lib.ListN.{length, get_or, length-take}
+use borrow.Author.Tests.{eq-eqb, ne_eqb}
+use lib.Dec.{eqb}
+use lib.ListN.{length, get_or}
 use Rattle.equilibrium.specs.Formula.{Formula, neg}
 use Rattle.equilibrium.specs.Meaning.{◌∈◌}
 use Rattle.equilibrium.proofs.Sets.{dec_and, dec_all, from_yes}
 use Rattle.elk.specs.Rules.{Rule, rules, code_of, Part, entry}
 use Rattle.elk.specs.Instance.{meant}
 use Rattle.elk.proofs.RuleCodes.{every_rule}
-use Rattle.format.specs.File.{Node, Body, formula_of, formulas, decoded_at, decoded}
-use Rattle.format.specs.Tests.{refers_ahead, unknown_formula}
-use Rattle.format.proofs.Decoded.{in_decoded}
-use Rattle.format.proofs.Formulas.{known_earlier, decoded_node, equal_numbers}
-use Rattle.format.proofs.GoodBodies.{Held, before_node, node_at}
-use Rattle.known.specs.Literals.{negation_notes, NegationNote, not_negated, negated_by}
-use Rattle.known.specs.Known.{Known}
+use Rattle.format.specs.File.{Body, decoded_at, decoded}
+use Rattle.format.specs.Tests.{not_earlier, unknown_formula}
+use Rattle.format.proofs.Booleans.{or_false}
+use Rattle.format.proofs.Formulas.{known_earlier, equal_numbers}
+use Rattle.format.proofs.GoodBodies.{good_held}
+use Rattle.tables.specs.Holding.{Formulas}
+use Rattle.tables.proofs.Reading.{told, by_word, by_formula}
 use Rattle.rules.specs.RuleTable.{part_number, part_numbers, added_sides, rule_numbers, rule_number, parts_from}
 use Rattle.rules.proofs.RuleNumbers.{rule_number_lem}
 use Rattle.sides.specs.Numbers.{no_number, missing}
 use Rattle.sides.specs.declared.numbers.Numbers.{Numbers}
-use Rattle.schema.specs.Additions.{negation_in, parts_listed, added_from}
+use Rattle.schema.specs.Principal.{record_at}
+use Rattle.schema.specs.Additions.{negation_in, part_in, added_in}
 use Rattle.schema.specs.declared.parts.Parts.{Parts}
 
 -- the number stands for the formula on a side: it is the formula's number, or the formula is not on the side
@@ -40,53 +42,50 @@ StandFor b side [] r = (r.x ≡ no_number) × (r.y ≡ no_number)
 StandFor b side (F ∷ []) r = Stands b side F r.x × (r.y ≡ no_number)
 StandFor b side (F ∷ G ∷ Gs) r = Stands b side F r.x × Stands b side G r.y
 
--- a node of a negation
-negation_node : (fs : List Formula) (n : Node) {A : Formula} → formula_of fs n ≡ neg A → (j : ℕ) × (n ≡ Node.not j) × (formula_of fs n ≡ formula_of fs (Node.not j))
-negation_node fs Node.bot e = absurd (let z : ◌≡◌ {A = ℕ} 0 1 = cc in omega arith)
-negation_node fs (Node.atom k) e = absurd (let z : ◌≡◌ {A = ℕ} 0 1 = cc in omega arith)
-negation_node fs (Node.not j) e = (j, refl, refl)
-negation_node fs (Node.and i j) e = absurd (let z : ◌≡◌ {A = ℕ} 0 1 = cc in omega arith)
-negation_node fs (Node.or i j) e = absurd (let z : ◌≡◌ {A = ℕ} 0 1 = cc in omega arith)
-negation_node fs (Node.imp i j) e = absurd (let z : ◌≡◌ {A = ℕ} 0 1 = cc in omega arith)
+-- one formula more on the side, which is another
+also_on : (b : Body) (x : ℕ) (xs : List ℕ) (F : Formula) (n : ℕ) → (F ≡ decoded_at b.nodes x → ⊥) → Stands b xs F n → Stands b (x ∷ xs) F n
+also_on b x xs F n other (inl k) = inl k
+also_on b x xs F n other (inr (e, off)) = inr (e, λ m. ⊎_elim other off (Memᴰ.cases_cons m))
 
-module _ {b : Body} (held : Held b) {notes : List ℕ} (k : Known b notes) (a : ℕ) (h : a < length b.nodes) where
-  abbrev F : Formula
-  F = neg (decoded_at b.nodes a)
+module _ {b : Body} {formulas : List ℕ} (g : Formulas b formulas) where
+  module _ (a : ℕ) (h : a < length b.nodes) where
+    abbrev Negates : ℕ → Type 0
+    Negates x = ((record_at formulas x).word ≡ 2) × ((record_at formulas x).first ≡ a)
 
-  -- a formula of the body that is the negation is so by its node
-  negates : (x : ℕ) → x < length b.nodes → F ≡ decoded_at b.nodes x → node_at b x ≡ Node.not a
-  negates x l e = by (negation_node (formulas b.nodes) (node_at b x) (sym (e ∙ decoded_node held x l)))
-    where
-      by :
-          (j : ℕ) × (node_at b x ≡ Node.not j) × (formula_of (formulas b.nodes) (node_at b x) ≡ formula_of (formulas b.nodes) (Node.not j))
-          → node_at b x ≡ Node.not a
-      by (j, n, f) =
-          let back : refers_ahead (before_node b x) (Node.not j) ≡ false = subst (λ (m : Node). refers_ahead (before_node b x) m ≡ false) n (held.earlier x l) in
-          let earlier = known_earlier (before_node b x) (j ∷ []) back j (Memᴰ.head refl) in
-          let inside : j < length b.nodes = omega (arith, earlier, length-take x b.nodes) in
-          let under : neg (decoded_at b.nodes j) ≡ F = sym (e ∙ decoded_node held x l ∙ f) in
-          let operand : decoded_at b.nodes j ≡ decoded_at b.nodes a = cc in
-          n ∙ ap Node.not (equal_numbers b held j a inside h operand)
+    -- the record of a formula tells whether it is the negation
+    negates : (x : ℕ) → x < length b.nodes → neg (decoded_at b.nodes a) ≡ decoded_at b.nodes x → Negates x
+    negates x k e =
+        let t = told g x k in
+        let own = by_formula t (sym e) in
+        (own.0, equal_numbers b (good_held g.good) _ a (by_word t own.0).0 h own.1)
 
-  -- a node that is the negation has its formula
-  negation_decoded : (j : ℕ) → j < length b.nodes → node_at b j ≡ Node.not a → decoded_at b.nodes j ≡ F
-  negation_decoded j l e = decoded_node held j l ∙ ap (formula_of (formulas b.nodes)) e
+    pub negation_stands : (side : List ℕ) → unknown_formula b side ≡ false → Stands b side (neg (decoded_at b.nodes a)) (negation_in formulas side a)
+    unfolding negation_in
+    negation_stands [] known = inr (refl, λ m. Memᴰ.not-nil m)
+    negation_stands (x ∷ xs) known =
+        by (ℕ_discrete (record_at formulas x).word 2) (ℕ_discrete (record_at formulas x).first a) (negation_stands xs both.1)
+      where
+        both : (not_earlier (length b.nodes) x ≡ false) × (unknown_formula b xs ≡ false)
+        both = or_false (not_earlier (length b.nodes) x) (unknown_formula b xs) known
 
-  pub negation_stands : (side : List ℕ) → unknown_formula b side ≡ false → Stands b side F (negation_in notes a)
-  unfolding negation_in
-  negation_stands side known = by (k.negations a (omega (arith, held.few_nodes)))
-    where
-      by : {n : ℕ} → NegationNote b.nodes a n → Stands b side F (cond (eqb n 0) missing ((n - 1) % 65536))
-      by (not_negated none) =
-          inr (
-            refl,
-            λ m. let i = in_decoded b side F m in
-                let earlier = known_earlier b side known i.0 i.1 in
-                none i.0 earlier (negates i.0 earlier i.2),
-          )
-      by (negated_by j l e) =
-          let past : (suc j - 1) % 65536 ≡ j = omega (arith, held.few_nodes) in
-          rw (eqb-suc-zero j, past) (inl (l, negation_decoded j l e))
+        earlier : x < length b.nodes
+        earlier = known_earlier b (x ∷ xs) known x (Memᴰ.head refl)
+
+        F : Formula
+        F = neg (decoded_at b.nodes a)
+
+        still : (F ≡ decoded_at b.nodes x → ⊥) → Stands b xs F (negation_in formulas xs a) → Stands b (x ∷ xs) F (negation_in formulas xs a)
+        still = also_on b x xs F (negation_in formulas xs a)
+
+        by :
+            Dec ((record_at formulas x).word ≡ 2) → Dec ((record_at formulas x).first ≡ a) → Stands b xs F (negation_in formulas xs a)
+            → Stands b (x ∷ xs) F (negation_in formulas (x ∷ xs) a)
+        by (yes w) (yes f) rest =
+            rw (eq-eqb (record_at formulas x).word 2 w, eq-eqb (record_at formulas x).first a f)
+            (inl (earlier, (by_word (told g x earlier) w).1 ∙ ap (λ (i : ℕ). neg (decoded_at b.nodes i)) f))
+        by (yes w) (no n) rest =
+            rw (ne_eqb (record_at formulas x).first a n, and-false (eqb (record_at formulas x).word 2)) (still (λ e. n (negates x earlier e).1) rest)
+        by (no n) f rest = rw (ne_eqb (record_at formulas x).word 2 n) (still (λ e. n (negates x earlier e).0) rest)
 
 -- the places of a rule's sides
 places : List ℕ
@@ -135,24 +134,21 @@ pub record KnownParts (b : Body) (r : Parts) : Type 0 where
 abbrev pub meant_by : Body → Parts → Part → Formula
 meant_by b r = meant (decoded_at b.nodes r.whole) (decoded_at b.nodes r.first) (decoded_at b.nodes r.second)
 
-module _ {b : Body} (held : Held b) {notes : List ℕ} (noted : Known b notes) (side : List ℕ) (known : unknown_formula b side ≡ false)
+module _ {b : Body} {formulas : List ℕ} (g : Formulas b formulas) (side : List ℕ) (known : unknown_formula b side ≡ false)
     (p : Parts) (parts : KnownParts b p) where
-  number_of : ℕ → ℕ
-  number_of k = get_or (parts_listed notes p) k no_number
-
-  part_stands : (x : Part) → Stands b side (meant_by b p x) (number_of (part_number x))
-  unfolding number_of
+  part_stands : (x : Part) → Stands b side (meant_by b p x) (part_in formulas side p (part_number x))
+  unfolding part_in
   part_stands Part.P = inl (parts.whole, refl)
   part_stands Part.A = inl (parts.first, refl)
   part_stands Part.B = inl (parts.second, refl)
-  part_stands Part.~A = negation_stands held noted p.first parts.first side known
-  part_stands Part.~B = negation_stands held noted p.second parts.second side known
+  part_stands Part.~A = negation_stands g p.first parts.first side known
+  part_stands Part.~B = negation_stands g p.second parts.second side known
 
   numbered : ℕ → ℕ → Numbers
-  numbered x y = record { x = number_of x; y = number_of y }
+  numbered x y = record { x = part_in formulas side p x; y = part_in formulas side p y }
 
   parts_stand : (xs : List Part) → StandFor b side (map (meant_by b p) xs) (numbered (get_or (part_numbers xs) 0 0) (get_or (part_numbers xs) 1 0))
-  unfolding number_of numbered
+  unfolding part_in numbered
   parts_stand [] = (refl, refl)
   parts_stand (x ∷ []) = (part_stands x, refl)
   parts_stand (x ∷ y ∷ ys) = (part_stands x, part_stands y)
@@ -160,8 +156,8 @@ module _ {b : Body} (held : Held b) {notes : List ℕ} (noted : Known b notes) (
   -- the numbers of what the rule adds at a place stand for it
   pub added_stands :
       (s : Rule) (rule : ℕ) → code_of s ≡ rule → (place : ℕ) → place < 6
-      → StandFor b side (map (meant_by b p) (parts_at s place)) (added_from (parts_listed notes p) rule place)
-  unfolding number_of numbered number_at part_at
+      → StandFor b side (map (meant_by b p) (parts_at s place)) (added_in formulas side p rule place)
+  unfolding numbered number_at part_at
   added_stands s rule e place h =
       let first = at_zero ∙ (part_numbers_lem s place h).0 in
       let second = read 1 (omega arith) ∙ (part_numbers_lem s place h).1 in

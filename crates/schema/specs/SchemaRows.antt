@@ -6,13 +6,12 @@ use Rattle.elk.specs.Instance.{SchemaInstance}
 use Rattle.elk.specs.CommonSets.{Shared}
 use Rattle.format.specs.File.{Node, Body, decoded_at, decoded}
 use Rattle.format.specs.Tests.{unknown_formula}
-use Rattle.known.specs.Known.{Known}
 use Rattle.rules.specs.RuleTable.{rule_number}
 use Rattle.sides.specs.Deciding.{DecidesIf}
 use Rattle.sides.specs.Members.{AllRise}
 use Rattle.tables.specs.Holding.{Formulas}
 use Rattle.schema.specs.Principal.{parts_in}
-use Rattle.schema.specs.Additions.{parts_listed, sides_in}
+use Rattle.schema.specs.Additions.{sides_in}
 use Rattle.schema.specs.declared.parts.Parts.{Parts}
 
 -- the antecedent and the succedent of a sequent, as numbers
@@ -45,23 +44,16 @@ module _ (h : Handed) where
     pub left : AllRise (h.row.left ∷ take h.count (h.one.left ∷ h.two.left ∷ []))
     pub right : AllRise (h.row.right ∷ take h.count (h.one.right ∷ h.two.right ∷ []))
 
-  -- some L gives the left sides and some R the right sides, each with what is added, where these are the numbers of the parts
-  pub record SidesShared (parts : List ℕ) : Type 0 where
-    pub left : Shared (sides_in parts h.rule h.count 0 h.row.left h.one.left h.two.left)
-    pub right : Shared (sides_in parts h.rule h.count 1 h.row.right h.one.right h.two.right)
+  module _ (formulas : List ℕ) where
+    -- the principal formula and its parts, by the form that the rule asks for
+    abbrev pub parts_handed : Parts
+    parts_handed = parts_in formulas (rule_number h.rule 0) h.principal
 
-  -- the principal formula and its parts, by the form that the rule asks for
-  abbrev pub parts_handed : List ℕ → Parts
-  parts_handed formulas = parts_in formulas (rule_number h.rule 0) h.principal
-
-  -- the principal formula is of the form, and the sides are as the rule asks
-  pub record SchemaSides (formulas notes : List ℕ) : Type 0 where
-    pub fits : (parts_handed formulas).fits ≡ true
-    pub sides : SidesShared (parts_listed notes (parts_handed formulas))
-
--- Whether the sides are as the rule asks. Where one does not rise strictly the answer is free, but true only where they are.
-abbrev pub SidesAnswer : List ℕ → Handed → Bool → Type 0
-SidesAnswer parts h r = DecidesIf (SidesRise h) (SidesShared h parts) r
+    -- the principal formula is of the form; some L gives the left sides and some R the right sides, each with what is added
+    pub record SchemaSides : Type 0 where
+      pub fits : parts_handed.fits ≡ true
+      pub left : Shared (sides_in formulas parts_handed h.rule h.count 0 h.row.left h.one.left h.two.left)
+      pub right : Shared (sides_in formulas parts_handed h.rule h.count 1 h.row.right h.one.right h.two.right)
 
 -- the sequent of this kind with these sides
 abbrev pub sequent_with : List Node → Kind → Sides → Sequent
@@ -72,11 +64,10 @@ pub record KnownSides (b : Body) (s : Sides) : Type 0 where
   pub left : unknown_formula b s.left ≡ false
   pub right : unknown_formula b s.right ≡ false
 
--- the table holds the formulas of a good body, and the notes what is known of them; the code is that of a rule of the table, there are as many premises as it has, and
+-- the table holds the formulas of a good body, the code is that of a rule of the table, there are as many premises as it has, and
 -- the principal formula and the sides that there are have known numbers
-pub record OfBody (b : Body) (s : Rule) (t : Schema) (formulas notes : List ℕ) (h : Handed) : Type 0 where
+pub record OfBody (b : Body) (s : Rule) (t : Schema) (formulas : List ℕ) (h : Handed) : Type 0 where
   pub held : Formulas b formulas
-  pub known : Known b notes
   pub code : code_of s ≡ h.rule
   pub rule : entry s ≡ schema t
   pub count : h.count ≡ length t.premises
@@ -91,9 +82,8 @@ InstanceHanded b t h =
     SchemaInstance t (decoded_at b.nodes h.principal) (map (sequent_with b.nodes t.kind) (premises_handed h))
     (sequent_with b.nodes t.kind h.row)
 
--- Where the table holds a body with what is known of it, whether the row is an instance. Where it holds none, by the records and notes
--- that stand there. Where a side
+-- Where the table holds a body, whether the row is an instance. Where it holds none, by the records that stand there. Where a side
 -- does not rise strictly the answer is free, but it is true only where the sides fit, or the row is an instance.
-pub record SchemaAnswer (formulas notes : List ℕ) (h : Handed) (r : Bool) : Type 0 where
-  pub numbers : DecidesIf (SidesRise h) (SchemaSides h formulas notes) r
-  pub instances : (b : Body) (s : Rule) (t : Schema) → OfBody b s t formulas notes h → DecidesIf (SidesRise h) (InstanceHanded b t h) r
+pub record SchemaAnswer (formulas : List ℕ) (h : Handed) (r : Bool) : Type 0 where
+  pub numbers : DecidesIf (SidesRise h) (SchemaSides h formulas) r
+  pub instances : (b : Body) (s : Rule) (t : Schema) → OfBody b s t formulas h → DecidesIf (SidesRise h) (InstanceHanded b t h) r

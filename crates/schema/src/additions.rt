@@ -1,64 +1,66 @@
-// The numbers of what a rule adds to a side, in a file: they are the same for all its sides.
-ghost use Rattle.std.specs.Prelude.{◌≡◌, ℕ, ◌%◌, ◌<◌, get_or};
-ghost use Rattle.rules.specs.RuleTable.{packed_rules};
-ghost use Rattle.sides.specs.Numbers.{no_number};
-ghost use Rattle.schema.specs.Additions.{negation_in, parts_listed, added_from};
+// The numbers of what a rule adds to a side.
+ghost use Rattle.std.specs.Prelude.{◌≡◌, ◌<◌};
+ghost use Rattle.schema.specs.Additions.{negation_in, part_in, added_in};
 
 use crate::parts::Parts;
-use known::literals::{NEGATIONS, note_of};
-use rules::{PARTS, number_in};
+use rules::{PARTS, rule_number};
 use sides::numbers::{MISSING, NO_NUMBER, Numbers, number};
+use tables::records::{node, wide};
 
-// The number of `~A`, where `a` is the number of A.
-fn negation_of(notes: &[u64], a: u16) -> u32
-    ensures { result ≡ negation_in notes.now a }
+// The number of `~A` on a side, where `a` is the number of A.
+fn negation_on(formulas: &[u16], side: &[u16], a: u16) -> u32
+    ensures { result ≡ negation_in formulas.now side.now a }
 {
-    let past = note_of(notes, NEGATIONS, a);
-    if past == 0 {
-        return MISSING;
+    let mut i = 0;
+    while i < side.len() {
+        let x = side[i];
+        let n = node(formulas, wide(x));
+        let word = n.word;
+        let first = n.first;
+        if word == 2 {
+            if first == a {
+                return number(x);
+            }
+        }
+        i += 1;
     }
-    ((past - 1) % 65536) as u32
+    MISSING
 }
 
-// The number of each part that a rule can add, in the order of the rule table: nothing, the principal formula, A, B, ~A and ~B.
-pub(crate) fn part_numbers(notes: &[u64], p: Parts) -> [u32; 8]
-    ensures { result ≡ parts_listed notes.now p }
+// The number of one part on a side.
+fn part_on(formulas: &[u16], side: &[u16], p: Parts, part: u8) -> u32
+    ensures { result ≡ part_in formulas.now side.now p part }
 {
-    [
-        NO_NUMBER,
-        number(p.whole),
-        number(p.first),
-        number(p.second),
-        negation_of(notes, p.first),
-        negation_of(notes, p.second),
-        NO_NUMBER,
-        NO_NUMBER,
-    ]
+    let first = p.first;
+    let second = p.second;
+    if part == 0 {
+        return NO_NUMBER;
+    }
+    if part == 1 {
+        return number(p.whole);
+    }
+    if part == 2 {
+        return number(first);
+    }
+    if part == 3 {
+        return number(second);
+    }
+    if part == 4 {
+        return negation_on(formulas, side, first);
+    }
+    negation_on(formulas, side, second)
 }
 
-fn wide(x: u8) -> usize
-    ensures { result ≡ x }
-{
-    x as usize
-}
-
-// The number of one part, which is one of eight.
-fn part_at(parts: &[u32; 8], part: u8) -> u32
-    ensures { result ≡ get_or parts.now (part % 8) no_number }
-{
-    parts[wide(part % 8)]
-}
-
-// The numbers of what a rule of these numbers adds at a place (0 to 5: left and right of the conclusion, the first and the second premise).
-pub(crate) fn added(parts: &[u32; 8], numbers: u64, place: usize) -> Numbers
+// The numbers of what the rule adds at a place (0 to 5: left and right of the conclusion, the first and the second premise).
+pub(crate) fn added(formulas: &[u16], side: &[u16], p: Parts, rule: u16, place: usize) -> Numbers
     requires { place < 6 }
-    ensures { (rule : ℕ) → numbers ≡ get_or packed_rules rule 0 → result ≡ added_from parts.now rule place }
+    ensures { result ≡ added_in formulas.now side.now p rule place }
 {
     let at = PARTS + 2 * place;
-    let one = number_in(numbers, at);
-    let two = number_in(numbers, at + 1);
+    let one = rule_number(rule, at);
+    let two = rule_number(rule, at + 1);
     Numbers {
-        x: part_at(parts, one),
-        y: part_at(parts, two),
+        x: part_on(formulas, side, p, one),
+        y: part_on(formulas, side, p, two),
     }
 }

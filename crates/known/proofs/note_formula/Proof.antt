@@ -1,11 +1,9 @@
 -- `known::note_formula` meets its contract. Assumes nothing.
 use mathlib.Core.List.{List}
-use mathlib.Core.Path.{refl, ap, ap₂, subst, ◌∙◌}
+use mathlib.Core.Path.{refl, ap, subst, ◌∙◌}
 use borrow.Author.Rules.{rules}
 use Prim.Native.Nat.{ℕ}
 use Rattle.tables.specs.Records.{record_numbers}
-use Rattle.known.specs.declared.literals.Words.{Words}
-use Rattle.known.specs.Literals.{with_words, with_negation}
 use Rattle.known.specs.Index.{entered, place_in, NodeFound}
 use Rattle.known.specs.Entering.{full, held, new}
 use Rattle.known.proofs.Entries.{formula_entered}
@@ -33,20 +31,11 @@ returns-2 c =
 enum_told : tie.Need-enum-told
 enum_told c = search rules
 
-record-words-requires : tie.Need-record-words-requires
-record-words-requires c κs = search rules
-
 record-atoms-requires : tie.Need-record-atoms-requires
 record-atoms-requires c κs = search rules
 
 put-note-requires : tie.Need-put-note-requires
 put-note-requires c κs = search rules
-
-put-words-requires : tie.Need-put-words-requires
-put-words-requires c κs = search rules
-
-put-negation-requires : tie.Need-put-negation-requires
-put-negation-requires c κs = search rules
 
 enter-node-requires : tie.Need-enter-node-requires
 enter-node-requires c κs = search rules
@@ -56,26 +45,17 @@ same-length-2 c = search rules
 
 returns-3 : tie.Need-returns-3
 returns-3 c =
-    let node-entered = c.before.before in
-    let negation-put = node-entered.before.before.before.before in
-    let words-put = negation-put.before.before.before.before in
-    let atoms-put = words-put.before.before.before.before in
-    let words = atoms-put.before.before.before.before in
-    let told = words.before.before in
+    let notes-put = c.before.before.before.before.before.before in
+    let told = notes-put.before.before.before.before in
     let asked = told.before.before in
     let args = asked.before.before.before.before.before.args in
     let nowhere = subst (NodeFound _ _ _) (ap place_in told.enum_told.given.1) asked.find-node.ensures in
     formula_entered (new asked.before.before.if1.false nowhere (
     record {
-      atoms = atoms-put.before.record-atoms.result;
-      atoms_are = atoms-put.before.record-atoms.ensures;
+      atoms = notes-put.before.record-atoms.result;
+      atoms_are = notes-put.before.record-atoms.ensures;
       put = refl;
-      noted = node-entered.enter-node.ensures
-          ∙ ap (λ (l : List ℕ). entered l args.count (record_numbers args.key))
-          (negation-put.put-negation.ensures
-          ∙ ap (λ (l : List ℕ). with_negation l args.count args.key)
-          (words-put.put-words.ensures ∙ ap₂ (λ (l : List ℕ) (w : Words). with_words l args.count w)
-          atoms-put.put-note.ensures words.record-words.ensures));
+      noted = c.before.before.enter-node.ensures ∙ ap (λ (l : List ℕ). entered l args.count (record_numbers args.key)) notes-put.put-note.ensures;
     }))
 
 pub note_formula_spec : {M : Type 1} → statement M
@@ -88,11 +68,8 @@ note_formula_spec =
     same_length
     returns-2
     enum_told
-    record-words-requires
     record-atoms-requires
     put-note-requires
-    put-words-requires
-    put-negation-requires
     enter-node-requires
     same-length-2
     returns-3)

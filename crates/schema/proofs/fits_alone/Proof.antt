@@ -11,10 +11,10 @@ holds-requires : tie.Need-holds-requires
 holds-requires c κs = search rules
 
 returns : tie.Need-returns
-returns c rule e =
+returns c =
     let here = c.before in
-    let args = here.before.before.args in
-    alone args.parts.now rule args.place args.side.now (here.added.ensures rule e) c.holds.ensures
+    let args = here.before.before.before.args in
+    alone args.formulas.now args.p args.rule args.place args.side.now here.added.ensures c.holds.ensures
 
 pub fits_alone_spec : {M : Type 1} → statement M
 fits_alone_spec = tie.close (tie.spec added-requires holds-requires returns)

@@ -18,12 +18,12 @@ fit-requires : tie.Need-fit-requires
 fit-requires c κs = search rules
 
 returns : tie.Need-returns
-returns c rule e =
+returns c =
     let first = c.before in
     let here = first.before in
-    let args = here.before.before.before.args in
-    with_one args.parts.now rule args.place args.side.now args.one.now [] (here.added.ensures rule e)
-    (first.added2.ensures rule e) c.fit.ensures
+    let args = here.before.before.before.before.args in
+    with_one args.formulas.now args.p args.rule args.place args.side.now args.one.now [] here.added.ensures
+    first.added2.ensures c.fit.ensures
 
 pub fits_one_spec : {M : Type 1} → statement M
 fits_one_spec = tie.close (tie.spec added-requires add-added added-requires-2 fit-requires returns)

@@ -23,13 +23,13 @@ three-fit-requires : tie.Need-three-fit-requires
 three-fit-requires c κs = search rules
 
 returns : tie.Need-returns
-returns c rule e =
+returns c =
     let second = c.before in
     let first = second.before in
     let here = first.before in
-    let args = here.before.before.before.before.args in
-    with_two args.parts.now rule args.place args.side.now args.one.now args.two.now (here.added.ensures rule e)
-    (first.added2.ensures rule e) (second.added3.ensures rule e) c.three-fit.ensures
+    let args = here.before.before.before.before.before.args in
+    with_two args.formulas.now args.p args.rule args.place args.side.now args.one.now args.two.now here.added.ensures
+    first.added2.ensures second.added3.ensures c.three-fit.ensures
 
 pub fits_two_spec : {M : Type 1} → statement M
 fits_two_spec =

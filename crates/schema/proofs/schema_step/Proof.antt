@@ -1,16 +1,16 @@
--- `schema::schema_step` meets its contract: the principal formula is of the rule's form, and the sides fit.
-use Prim.Native.Nat.{ℕ}
+-- `schema::schema_step` meets its contract: the principal formula is of the rule's form, and the left and the right sides fit.
+use Prim.Native.Nat.{ℕ, ◌≤◌}
+use native.Mathlib.Omega.{arith}
 use mathlib.Core.List.{List}
-use mathlib.Core.Path.{◌≡◌, ap, subst, ◌∙◌}
+use mathlib.Core.Path.{◌≡◌, ap, ◌∙◌}
 use borrow.Author.Rules.{rules}
 use borrow.Author.Tests.{not-true, not_false}
-use Rattle.rules.specs.RuleTable.{packed_rules, number_in, rule_number}
-use Rattle.rules.proofs.RuleNumbers.{number_read}
-use lib.ListN.{get_or}
+use Rattle.rules.specs.RuleTable.{rule_number}
 use Rattle.schema.specs.Principal.{parts_in}
-use Rattle.schema.specs.SchemaRows.{Sides, ◌⊣◌, Handed, parts_handed, SidesAnswer}
+use Rattle.schema.specs.SchemaRows.{Sides, ◌⊣◌, Handed, parts_handed}
 use Rattle.schema.specs.declared.parts.Parts.{Parts}
-use Rattle.schema.proofs.SchemaRule.{misfit_answered, sides_answered}
+use Rattle.schema.proofs.Counting.{no_premise, one_premise, two_premises}
+use Rattle.schema.proofs.SchemaRule.{misfit_answered, left_answered, right_answered}
 use Rattle.schema.proofs.schema_step.Statement.{statement}
 use Rattle.schema.proofs.schema_step.Tie as tie
 
@@ -19,16 +19,12 @@ handed rule principal count row one two = record { rule = rule; principal = prin
 
 -- the parts that were read are those of what is handed over
 parts_same :
-    (formulas : List ℕ) (h : Handed) {numbers code form : ℕ} {p : Parts} → numbers ≡ get_or packed_rules h.rule 0 → code ≡ number_in numbers 0
-    → form ≡ code → p ≡ parts_in formulas form h.principal → p ≡ parts_handed h formulas
-parts_same formulas h n r s e =
-    e ∙ ap (λ (f : ℕ). parts_in formulas f h.principal) (s ∙ r ∙ ap (λ (m : ℕ). number_in m 0) n ∙ number_read h.rule 0)
+    (formulas : List ℕ) (h : Handed) {code form : ℕ} {p : Parts} → code ≡ rule_number h.rule 0 → form ≡ code
+    → p ≡ parts_in formulas form h.principal → p ≡ parts_handed h formulas
+parts_same formulas h r s e = e ∙ ap (λ (f : ℕ). parts_in formulas f h.principal) (s ∙ r)
 
-numbers-of-requires : tie.Need-numbers-of-requires
-numbers-of-requires c κs = search rules
-
-number-in-requires : tie.Need-number-in-requires
-number-in-requires c κs = search rules
+rule-number-requires : tie.Need-rule-number-requires
+rule-number-requires c κs = search rules
 
 small-requires : tie.Need-small-requires
 small-requires c κs = search rules
@@ -40,43 +36,130 @@ returns : tie.Need-returns
 returns c =
     let at-parts = c.before.before in
     let at-form = at-parts.before in
-    let at-numbers = at-form.before.before in
-    let args = at-numbers.before.before.before.before.before.before.before.before.args in
+    let args = at-form.before.before.before.before.before.before.before.before.before.args in
     let h = handed args.rule args.principal args.premises (args.left.now ⊣ args.right.now)
     (args.left_one.now ⊣ args.right_one.now) (args.left-two.now ⊣ args.right_two.now) in
-    let same = parts_same args.formulas.now h at-numbers.Numbers-of.ensures at-form.before.number_in.ensures at-form.small.ensures
-    at-parts.parts_of_lem.ensures in
-    misfit_answered args.formulas.now args.notes.now h same (not-true _ c.if1.true)
+    let same = parts_same args.formulas.now h at-form.before.rule_number_lem.ensures at-form.small.ensures at-parts.parts_of_lem.ensures in
+    misfit_answered args.formulas.now h same (not-true _ c.if1.true)
 
-part-numbers-requires : tie.Need-part-numbers-requires
-part-numbers-requires c κs = search rules
-
-sides-fit-requires : tie.Need-sides-fit-requires
-sides-fit-requires c κs = search rules
+fits-alone-requires : tie.Need-fits-alone-requires
+fits-alone-requires c κs = search rules
 
 returns-2 : tie.Need-returns-2
 returns-2 c =
-    let at-parts = c.before.before.before.before in
+    let at-parts = c.before.before.before.before.before in
     let at-form = at-parts.before in
-    let at-numbers = at-form.before.before in
-    let args = at-numbers.before.before.before.before.before.before.before.before.args in
+    let args = at-form.before.before.before.before.before.before.before.before.before.args in
     let h = handed args.rule args.principal args.premises (args.left.now ⊣ args.right.now)
     (args.left_one.now ⊣ args.right_one.now) (args.left-two.now ⊣ args.right_two.now) in
-    let same = parts_same args.formulas.now h at-numbers.Numbers-of.ensures at-form.before.number_in.ensures at-form.small.ensures
-    at-parts.parts_of_lem.ensures in
-    let answer = c.sides-fit.ensures args.rule args.principal at-numbers.Numbers-of.ensures in
-    sides_answered args.formulas.now args.notes.now h same (not_false _ c.before.before.if1.false)
-    (subst (λ (parts : List ℕ). SidesAnswer parts h c.sides-fit.result) c.before.part_numbers_lem.ensures answer)
+    let same = parts_same args.formulas.now h at-form.before.rule_number_lem.ensures at-form.small.ensures at-parts.parts_of_lem.ensures in
+    let left = no_premise args.formulas.now _ args.rule 0 args.left.now args.left_one.now args.left-two.now args.premises
+    c.before.before.if2.true c.before.fits-alone.ensures in
+    left_answered args.formulas.now h same left (not-true _ c.if3.true)
+
+fits-alone-requires-2 : tie.Need-fits-alone-requires-2
+fits-alone-requires-2 c κs = search rules
+
+returns-3 : tie.Need-returns-3
+returns-3 c =
+    let at-parts = c.before.before.before.before.before.before in
+    let at-form = at-parts.before in
+    let args = at-form.before.before.before.before.before.before.before.before.before.args in
+    let h = handed args.rule args.principal args.premises (args.left.now ⊣ args.right.now)
+    (args.left_one.now ⊣ args.right_one.now) (args.left-two.now ⊣ args.right_two.now) in
+    let same = parts_same args.formulas.now h at-form.before.rule_number_lem.ensures at-form.small.ensures at-parts.parts_of_lem.ensures in
+    let left = no_premise args.formulas.now _ args.rule 0 args.left.now args.left_one.now args.left-two.now args.premises
+    c.before.before.before.if2.true c.before.before.fits-alone.ensures in
+    let right = no_premise args.formulas.now _ args.rule 1 args.right.now args.right_one.now args.right_two.now args.premises
+    c.before.before.before.if2.true c.fits-alone2.ensures in
+    right_answered args.formulas.now h same (not_false _ c.before.before.before.before.if1.false) left
+    (not_false _ c.before.if3.false) right
+
+fits-one-requires : tie.Need-fits-one-requires
+fits-one-requires c κs = search rules
+
+returns-4 : tie.Need-returns-4
+returns-4 c =
+    let at-parts = c.before.before.before.before.before.before in
+    let at-form = at-parts.before in
+    let args = at-form.before.before.before.before.before.before.before.before.before.args in
+    let h = handed args.rule args.principal args.premises (args.left.now ⊣ args.right.now)
+    (args.left_one.now ⊣ args.right_one.now) (args.left-two.now ⊣ args.right_two.now) in
+    let same = parts_same args.formulas.now h at-form.before.rule_number_lem.ensures at-form.small.ensures at-parts.parts_of_lem.ensures in
+    let left = one_premise args.formulas.now _ args.rule 0 args.left.now args.left_one.now args.left-two.now args.premises
+    c.before.before.if4.true c.before.Fits-one.ensures in
+    left_answered args.formulas.now h same left (not-true _ c.if5.true)
+
+fits-one-requires-2 : tie.Need-fits-one-requires-2
+fits-one-requires-2 c κs = search rules
+
+returns-5 : tie.Need-returns-5
+returns-5 c =
+    let at-parts = c.before.before.before.before.before.before.before in
+    let at-form = at-parts.before in
+    let args = at-form.before.before.before.before.before.before.before.before.before.args in
+    let h = handed args.rule args.principal args.premises (args.left.now ⊣ args.right.now)
+    (args.left_one.now ⊣ args.right_one.now) (args.left-two.now ⊣ args.right_two.now) in
+    let same = parts_same args.formulas.now h at-form.before.rule_number_lem.ensures at-form.small.ensures at-parts.parts_of_lem.ensures in
+    let left = one_premise args.formulas.now _ args.rule 0 args.left.now args.left_one.now args.left-two.now args.premises
+    c.before.before.before.if4.true c.before.before.Fits-one.ensures in
+    let right = one_premise args.formulas.now _ args.rule 1 args.right.now args.right_one.now args.right_two.now args.premises
+    c.before.before.before.if4.true c.fits-one2.ensures in
+    right_answered args.formulas.now h same (not_false _ c.before.before.before.before.before.if1.false) left
+    (not_false _ c.before.if5.false) right
+
+fits-two-requires : tie.Need-fits-two-requires
+fits-two-requires c κs = search rules
+
+returns-6 : tie.Need-returns-6
+returns-6 c =
+    let at-parts = c.before.before.before.before.before.before in
+    let at-form = at-parts.before in
+    let args = at-form.before.before.before.before.before.before.before.before.before.args in
+    let h = handed args.rule args.principal args.premises (args.left.now ⊣ args.right.now)
+    (args.left_one.now ⊣ args.right_one.now) (args.left-two.now ⊣ args.right_two.now) in
+    let same = parts_same args.formulas.now h at-form.before.rule_number_lem.ensures at-form.small.ensures at-parts.parts_of_lem.ensures in
+    let more : 2 ≤ args.premises = omega (arith, c.before.before.if4.false, c.before.before.before.if2.false) in
+    let left = two_premises args.formulas.now _ args.rule 0 args.left.now args.left_one.now args.left-two.now args.premises
+    more c.before.fits-two.ensures in
+    left_answered args.formulas.now h same left (not-true _ c.if6.true)
+
+fits-two-requires-2 : tie.Need-fits-two-requires-2
+fits-two-requires-2 c κs = search rules
+
+returns-7 : tie.Need-returns-7
+returns-7 c =
+    let at-parts = c.before.before.before.before.before.before.before in
+    let at-form = at-parts.before in
+    let args = at-form.before.before.before.before.before.before.before.before.before.args in
+    let h = handed args.rule args.principal args.premises (args.left.now ⊣ args.right.now)
+    (args.left_one.now ⊣ args.right_one.now) (args.left-two.now ⊣ args.right_two.now) in
+    let same = parts_same args.formulas.now h at-form.before.rule_number_lem.ensures at-form.small.ensures at-parts.parts_of_lem.ensures in
+    let more : 2 ≤ args.premises = omega (arith, c.before.before.before.if4.false, c.before.before.before.before.if2.false) in
+    let left = two_premises args.formulas.now _ args.rule 0 args.left.now args.left_one.now args.left-two.now args.premises
+    more c.before.before.fits-two.ensures in
+    let right = two_premises args.formulas.now _ args.rule 1 args.right.now args.right_one.now args.right_two.now args.premises
+    more c.fits-two2.ensures in
+    right_answered args.formulas.now h same (not_false _ c.before.before.before.before.before.if1.false) left
+    (not_false _ c.before.if6.false) right
 
 pub schema_step_spec : {M : Type 1} → statement M
 schema_step_spec =
     tie.close
     (tie.spec
-    numbers-of-requires
-    number-in-requires
+    rule-number-requires
     small-requires
     parts-of-requires
     returns
-    part-numbers-requires
-    sides-fit-requires
-    returns-2)
+    fits-alone-requires
+    returns-2
+    fits-alone-requires-2
+    returns-3
+    fits-one-requires
+    returns-4
+    fits-one-requires-2
+    returns-5
+    fits-two-requires
+    returns-6
+    fits-two-requires-2
+    returns-7)

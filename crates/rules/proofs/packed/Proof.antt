@@ -1,11 +1,11 @@
--- `rules::numbers_of` meets its contract: each arm by computation, and what is left lies past the table.
+-- `rules::packed` meets its contract: each arm by computation, and what is left lies past the table.
 use mathlib.Core.Path.{sym}
 use lib.ListN.{get_or-eq_default}
 use borrow.Author.Rules.{rules}
 use Rattle.rules.specs.RuleTable.{packed_rules}
 use Rattle.rules.proofs.RuleNumbers.{past_all}
-use Rattle.rules.proofs.numbers_of.Statement.{statement}
-use Rattle.rules.proofs.numbers_of.Tie as tie
+use Rattle.rules.proofs.packed.Statement.{statement}
+use Rattle.rules.proofs.packed.Tie as tie
 
 returns : tie.Need-returns
 returns c = search rules
@@ -124,8 +124,8 @@ returns-38 c = search rules
 returns-39 : tie.Need-returns-39
 returns-39 c = sym (get_or-eq_default packed_rules 0 (past_all 38 c.before.args.rule c.match.rest))
 
-pub numbers_of_spec : {M : Type 1} → statement M
-numbers_of_spec =
+pub packed_spec : {M : Type 1} → statement M
+packed_spec =
     tie.close
     (tie.spec
     returns
