@@ -1,7 +1,7 @@
 -- One pass over a side that looks for a formula: `found` is whether some number before place i passes the test. Assumes nothing.
 use Prim.Native.Nat.{ℕ, ◌+◌, ◌≤◌, ◌<◌}
 use native.Mathlib.Numerals.{add-one}
-use mathlib.Core.Bool.{Bool, false, ◌||◌, or_false, or_assoc}
+use mathlib.Core.Bool.{Bool, false, ◌||◌, or-false, or_assoc}
 use mathlib.Core.List.{List}
 use mathlib.Core.Path.{◌≡◌, refl, sym, ap, ◌∙◌}
 use lib.ListN.{length, get_or, drop, drop_of_length-le}
@@ -27,4 +27,4 @@ module _ (test : ℕ → Bool) (side : List ℕ) where
 
   pub pass_ends : (found : Bool) (i : ℕ) → length side ≤ i → Passed found i → found ≡ any test side
   unfolding Passed
-  pass_ends found i h p = sym (p ∙ ap (λ (xs : List ℕ). found || any test xs) (drop_of_length-le side h) ∙ or_false found)
+  pass_ends found i h p = sym (p ∙ ap (λ (xs : List ℕ). found || any test xs) (drop_of_length-le side h) ∙ or-false found)

@@ -1,6 +1,6 @@
 -- The arm of a `match` on a shape that takes several of them tells their tags: the shape is none of the others.
 use Prim.Native.Nat.{ℕ}
-use mathlib.Core.Bool.{Bool, true, false, ◌||◌, true≢false, or_true}
+use mathlib.Core.Bool.{Bool, true, false, ◌||◌, true≢false, or-true}
 use mathlib.Core.List.{List, [], ◌∷◌}
 use mathlib.Core.Logic.{inl, inr, ◌≢◌}
 use mathlib.Core.Path.{◌≡◌, sym, ap, ◌∙◌}
@@ -19,7 +19,7 @@ one_of : (ks : List ℕ) (x : ℕ) → OneOf ks x → any (λ k. eqb x k) ks ≡
 one_of [] x h = absurd h
 one_of (k ∷ []) x h = ap (λ (t : Bool). t || false) (eq-eqb x k h)
 one_of (k ∷ j ∷ js) x (inl h) = ap (λ (t : Bool). t || any (λ k. eqb x k) (j ∷ js)) (eq-eqb x k h)
-one_of (k ∷ j ∷ js) x (inr h) = ap (λ (t : Bool). eqb x k || t) (one_of (j ∷ js) x h) ∙ or_true (eqb x k)
+one_of (k ∷ j ∷ js) x (inr h) = ap (λ (t : Bool). eqb x k || t) (one_of (j ∷ js) x h) ∙ or-true (eqb x k)
 
 -- a tag that is not listed is not the shape's
 pub not_tag : (ks : List ℕ) (t : ℕ) {x : ℕ} → any (λ k. eqb t k) ks ≡ false → OneOf ks x → x ≢ t
