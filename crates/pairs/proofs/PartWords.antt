@@ -1,6 +1,6 @@
 -- A part of a set as a word, put together atom by atom. Assumes nothing.
 use Prim.Native.Nat.{ℕ, ◌/◌, ◌^◌, ◌<◌}
-use mathlib.Core.Bool.{Bool, true, false, ◌&&◌, ◌||◌, and_true, or_assoc, or_false}
+use mathlib.Core.Bool.{Bool, true, false, ◌&&◌, ◌||◌, and-true, or_assoc, or-false}
 use mathlib.Core.List.Memᴰ
 use mathlib.Core.List.{List, [], ◌∷◌}
 use mathlib.Core.Path.{◌≡◌, refl, sym, ap, subst, ◌∙◌}
@@ -53,7 +53,7 @@ taken_next model n set set' rest rest' digits p small walk more taken i =
     below = member_small rest small p (subst (λ (ps : List ℕ). p ∈ ps) (sym walk) (Memᴰ.head refl))
 
     inside : (eqb i p && ltb p 64) ≡ eqb i p
-    inside = ap (λ (x : Bool). eqb i p && x) (lt-ltb p 64 below) ∙ and_true (eqb i p)
+    inside = ap (λ (x : Bool). eqb i p && x) (lt-ltb p 64 below) ∙ and-true (eqb i p)
 
 -- no atom is left
 pub taken_all : (model n set rest digits : ℕ) → model < 2 ^ 64 → set < 2 ^ 64 → members rest ≡ [] → Taken model n set rest digits
@@ -65,4 +65,4 @@ taken_all model n set rest digits small fits none taken =
     (λ i l. sym (taken i
     ∙ ap (λ (ps : List ℕ). has set i || has (set_of (part digits ps)) i) none
     ∙ ap (λ (x : Bool). has set i || x) (has_zero i)
-    ∙ or_false (has set i)))
+    ∙ or-false (has set i)))

@@ -10,9 +10,7 @@ use Rattle.atomset.specs.AtomSet.{has}
 use Rattle.tables.specs.declared.records.NodeRecord.{NodeRecord}
 use Rattle.pairs.specs.Truths.{truth_of, by_word, judged_by, digit}
 use Rattle.pairs.proofs.Digits.{digit_and, digit_or, digit_implies, note_read}
-use borrow.Author.Rules.{rules}
-use Rattle.pairs.proofs.judged.Statement.{statement}
-use Rattle.pairs.proofs.judged.Tie as tie
+use Rattle.pairs.proofs.judged.Goals as goal
 
 module _ (set : ℕ) (n a : Bool) (ts : List Bool) (key : NodeRecord) where
   A : Bool
@@ -64,61 +62,33 @@ module _ (set : ℕ) (n a : Bool) (ts : List Bool) (key : NodeRecord) where
       let w = key.word in
       simp (ne_eqb w 1 p, ne_eqb w 2 q, ne_eqb w 3 r, ne_eqb w 4 s, ne_eqb w 5 t)
 
-returns : tie.Need-returns
+pub returns-then-operator-eq-NOT : goal.returns-then-operator-eq-NOT
+returns-then-operator-eq-NOT c ts n a e f g =
+    let args = c.args in
+    f ∙ of_not args.set n a ts args.key c.if-operator-eq-NOT.true
+
+pub returns-then-operator-eq-ATOM : goal.returns-then-operator-eq-ATOM
+returns-then-operator-eq-ATOM c ts n a e f g =
+    let args = c.args in
+    c.atom_in.ensures ∙ of_atom args.set n a ts args.key c.if-operator-eq-ATOM.true
+
+pub returns-then-operator-eq-AND : goal.returns-then-operator-eq-AND
+returns-then-operator-eq-AND c ts n a e f g =
+    let args = c.args in
+    of_and args.set n a ts args.key _ e c.note_of-first.ensures c.note_of-second.ensures c.if-operator-eq-AND.true
+
+pub returns-then-operator-eq-OR : goal.returns-then-operator-eq-OR
+returns-then-operator-eq-OR c ts n a e f g =
+    let args = c.args in
+    of_or args.set n a ts args.key _ e c.note_of-first.ensures c.note_of-second.ensures c.if-operator-eq-OR.true
+
+pub returns-then-operator-eq-IMP : goal.returns-then-operator-eq-IMP
+returns-then-operator-eq-IMP c ts n a e f g =
+    let args = c.args in
+    of_imp args.set n a ts args.key _ e c.note_of-first.ensures c.note_of-second.ensures c.if-operator-eq-IMP.true _ g
+
+pub returns : goal.returns
 returns c ts n a e f g =
-    let args = c.before.before.args in
-    f ∙ of_not args.set n a ts args.key c.if1.true
-
-atom-in-requires : tie.Need-atom-in-requires
-atom-in-requires c κs = search rules
-
-returns-2 : tie.Need-returns-2
-returns-2 c ts n a e f g =
-    let args = c.before.before.before.before.args in
-    c.atom-in.ensures ∙ of_atom args.set n a ts args.key c.before.if2.true
-
-note-of-requires : tie.Need-note-of-requires
-note-of-requires c κs = search rules
-
-note-of-requires-2 : tie.Need-note-of-requires-2
-note-of-requires-2 c κs = search rules
-
-returns-3 : tie.Need-returns-3
-returns-3 c ts n a e f g =
-    let read = c.before in
-    let args = read.before.before.before.before.before.args in
-    of_and args.set n a ts args.key _ e read.before.note-of.ensures read.note-of2.ensures c.if3.true
-
-returns-4 : tie.Need-returns-4
-returns-4 c ts n a e f g =
-    let read = c.before.before in
-    let args = read.before.before.before.before.before.args in
-    of_or args.set n a ts args.key _ e read.before.note-of.ensures read.note-of2.ensures c.if4.true
-
-returns-5 : tie.Need-returns-5
-returns-5 c ts n a e f g =
-    let read = c.before.before.before in
-    let args = read.before.before.before.before.before.args in
-    of_imp args.set n a ts args.key _ e read.before.note-of.ensures read.note-of2.ensures c.if5.true _ g
-
-returns-6 : tie.Need-returns-6
-returns-6 c ts n a e f g =
-    let read = c.before.before.before in
-    let passed = read.before.before in
-    let args = passed.before.before.before.args in
-    sym (ap digit (of_none args.set n a ts args.key passed.if2.false passed.before.if1.false c.before.before.if3.false
-    c.before.if4.false c.if5.false))
-
-pub judged_spec : {M : Type 1} → statement M
-judged_spec =
-    tie.close
-    (tie.spec
-    returns
-    atom-in-requires
-    returns-2
-    note-of-requires
-    note-of-requires-2
-    returns-3
-    returns-4
-    returns-5
-    returns-6)
+    let args = c.args in
+    sym (ap digit (of_none args.set n a ts args.key c.if-operator-eq-ATOM.false c.if-operator-eq-NOT.false c.if-operator-eq-AND.false
+    c.if-operator-eq-OR.false c.if-operator-eq-IMP.false))
