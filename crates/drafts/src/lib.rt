@@ -15,7 +15,7 @@ use text::lists::{Listed, read_list, read_side};
 use text::numbers::{Number, Optional, read_number, read_principal};
 
 // A row as it is written: its number, rule and principal formula, and what is known of its lists.
-#[derive(Drop)]
+#[derive(Clone, Copy)]
 pub struct RowRead {
     pub number: Number,
     pub rule: u32,
@@ -101,7 +101,7 @@ pub fn is_well(row: RowRead) -> bool
 
 // The code of a row's rule, its principal formula, what is known of its lists, and its first two premises, 65,535 where there is
 // none. What its sides hold stands beside it, in a slice each.
-#[derive(Drop)]
+#[derive(Clone, Copy)]
 pub struct Draft {
     pub rule: u16,
     pub principal: Optional,

@@ -9,7 +9,7 @@ ghost use Rattle.keywords.specs.RuleWords.{CodesPlaced, Candidate, WordsStand, w
 
 use tables::names::same_bytes;
 
-#[derive(Drop)]
+#[derive(Clone, Copy)]
 pub enum Kind {
     Atom,
     Formula,

@@ -74,7 +74,7 @@ pub const MOST_FIELDS: usize = 7;
 
 // How many fields a line has, and where each of the first ones ends. Field 0 starts at 0, and each other one past the end of
 // the field before it. An end that is not used is 0.
-#[derive(Drop)]
+#[derive(Clone, Copy)]
 pub struct Fields {
     pub count: usize,
     pub ends: [usize; MOST_FIELDS],

@@ -6,7 +6,7 @@ use crate::numbers::{Entry, Number, number_at, read_number};
 use parts::find;
 
 // The first number of an item and its last, which are one for a single number, and where the item ends.
-#[derive(Drop)]
+#[derive(Clone, Copy)]
 pub(crate) enum Span {
     Of(u32, u32, usize),
     Bad,

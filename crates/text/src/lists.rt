@@ -12,7 +12,7 @@ const MOST_COUNTED: usize = 9223372036854775808;
 
 // What is known of a list: whether it is well written; and if it is, how many entries it has, written out, the least number above
 // them all (0 if there is none), and whether they rise strictly. Of a badly written list all is 0 and false.
-#[derive(Drop)]
+#[derive(Clone, Copy)]
 pub struct Listed {
     pub well: bool,
     pub count: usize,

@@ -6,7 +6,7 @@ ghost use Rattle.text.specs.Numbers.{NumberRead, PrincipalRead, number_at};
 use parts::is_dash;
 
 // A number is at most 99,999, so that a value never wraps.
-#[derive(Drop)]
+#[derive(Clone, Copy)]
 pub enum Number {
     Value(u32),
     Bad,
@@ -25,7 +25,7 @@ fn wide32(b: u8) -> u32
 }
 
 // A number within a field, and where it ends.
-#[derive(Drop)]
+#[derive(Clone, Copy)]
 pub(crate) enum Entry {
     Value(u32, usize),
     Bad,
@@ -76,7 +76,7 @@ pub fn read_number(field: &[u8]) -> Number
     Number::Value(n)
 }
 
-#[derive(Drop)]
+#[derive(Clone, Copy)]
 pub enum Optional {
     Absent,
     Value(u32),
