@@ -1,7 +1,7 @@
 -- The number that entering a formula stands for, where the table holds formulas with their index. Assumes nothing.
 use Prim.Native.Nat.{ℕ, zero, suc, ◌<◌}
 use native.Mathlib.Omega.{arith}
-use mathlib.Core.Bool.{Bool, true, ◌||◌, or_true}
+use mathlib.Core.Bool.{Bool, true, ◌||◌, or-true}
 use mathlib.Core.List.{List, [], ◌∷◌}
 use mathlib.Core.Option.{Option, some}
 use mathlib.Core.Path.{◌≡◌, refl, sym, ap, ap₂, subst, ◌∙◌}
@@ -24,7 +24,7 @@ use Rattle.known.proofs.Indexing.{record_there}
 any_at : {A : Type 0} (test : A → Bool) (xs : List A) (i : ℕ) (d : A) → i < length xs → test (get_or xs i d) ≡ true → any test xs ≡ true
 any_at test [] i d h e = absurd (omega arith)
 any_at test (x ∷ xs) zero d h e = ap (λ (b : Bool). b || any test xs) e
-any_at test (x ∷ xs) (suc i) d h e = ap (λ (b : Bool). test x || b) (any_at test xs i d (omega arith) e) ∙ or_true (test x)
+any_at test (x ∷ xs) (suc i) d h e = ap (λ (b : Bool). test x || b) (any_at test xs i d (omega arith) e) ∙ or-true (test x)
 
 -- the formula of a record is held
 abbrev again : List Node → NodeRecord → Bool

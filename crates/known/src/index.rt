@@ -9,7 +9,7 @@ ghost use Rattle.known.specs.Index.{formula_notes, slot_of, entered, place_in, N
 use tables::records::{NodeRecord, node, wide};
 
 // Where a formula is in its table.
-#[derive(Drop)]
+#[derive(Clone, Copy)]
 pub(crate) enum Located {
     At(usize),
     Nowhere,

@@ -12,7 +12,7 @@ use counts::limits::MOST_FORMULAS;
 use tables::records::{NodeRecord, put_node};
 
 // An equal formula is held under this number, the formula is new under this number, or there is no room for it.
-#[derive(Drop)]
+#[derive(Clone, Copy)]
 pub enum Entry {
     Held(usize),
     New(usize),

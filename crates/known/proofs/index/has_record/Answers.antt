@@ -3,7 +3,6 @@ use Prim.Native.Nat.{ℕ}
 use mathlib.Core.Bool.{Bool, true, false, ◌&&◌}
 use mathlib.Core.List.{List}
 use mathlib.Core.Path.{◌≡◌, refl, sym, ap, ap₂, ◌∙◌}
-use borrow.Author.Rules.{rules}
 use borrow.Author.Tests.{eq-eqb}
 use lib.Dec.{eqb}
 use lib.ListN.{get_or}
@@ -11,8 +10,7 @@ use Rattle.format.specs.Text.{same_list}
 use Rattle.tables.specs.declared.records.NodeRecord.{NodeRecord}
 use Rattle.tables.specs.Records.{record_numbers}
 use Rattle.format.proofs.Equal.{same_false}
-use Rattle.known.proofs.index.has_record.Statement.{statement}
-use Rattle.known.proofs.index.has_record.Tie as tie
+use Rattle.known.proofs.index.has_record.Goals as goal
 
 module _ (found key : NodeRecord) where
   differs_at : (k : ℕ) → (get_or (record_numbers found) k 0 ≡ get_or (record_numbers key) k 0 → ⊥) → false ≡ same_list (record_numbers found) (record_numbers key)
@@ -32,26 +30,20 @@ module _ {r : NodeRecord} {numbers : NodeRecord} (key : NodeRecord) (e : r ≡ n
   same_as : same_list (record_numbers r) (record_numbers key) ≡ same_list (record_numbers numbers) (record_numbers key)
   same_as = ap (λ (x : NodeRecord). same_list (record_numbers x) (record_numbers key)) e
 
-node-requires : tie.Need-node-requires
-node-requires c κs = search rules
+pub returns-then-found-key : goal.returns-then-found-key
+returns-then-found-key c =
+    let key = c.args.key in
+    let found = c.node-found in
+    differs_at found.result key 0 c.if-found-key.true ∙ same_as key found.ensures
 
-returns : tie.Need-returns
+pub returns-then-found-key-2 : goal.returns-then-found-key-2
+returns-then-found-key-2 c =
+    let key = c.args.key in
+    let found = c.node-found in
+    differs_at found.result key 1 c.if-found-key-2.true ∙ same_as key found.ensures
+
+pub returns : goal.returns
 returns c =
-    let key = c.before.before.before.before.before.args.key in
-    let found = c.before.before.before.node in
-    differs_at found.result key 0 c.if1.true ∙ same_as key found.ensures
-
-returns-2 : tie.Need-returns-2
-returns-2 c =
-    let key = c.before.before.before.before.before.before.before.before.args.key in
-    let found = c.before.before.before.before.before.before.node in
-    differs_at found.result key 1 c.if2.true ∙ same_as key found.ensures
-
-returns-3 : tie.Need-returns-3
-returns-3 c =
-    let key = c.before.before.before.before.before.before.before.before.before.before.args.key in
-    let found = c.before.before.before.before.before.before.before.before.node in
-    by_second found.result key c.before.before.before.before.before.if1.false c.before.before.if2.false ∙ same_as key found.ensures
-
-pub has_record_spec : {M : Type 1} → statement M
-has_record_spec = tie.close (tie.spec node-requires returns returns-2 returns-3)
+    let key = c.args.key in
+    let found = c.node-found in
+    by_second found.result key c.if-found-key.false c.if-found-key-2.false ∙ same_as key found.ensures
