@@ -4,7 +4,7 @@ use Prim.Native.Nat.{ℕ, zero, suc, ◌+◌, ◌≤◌, ◌<◌, min}
 use native.Mathlib.Decide.{dec_lt}
 use native.Mathlib.Numerals.{add-one}
 use native.Mathlib.Omega.{arith}
-use mathlib.Core.Bool.{Bool, true, false, not, ◌&&◌, ◌||◌, or_true}
+use mathlib.Core.Bool.{Bool, true, false, not, ◌&&◌, ◌||◌, or-true}
 use mathlib.Core.List.Memᴰ
 use mathlib.Core.List.{List, [], ◌∷◌}
 use mathlib.Core.Logic.{⊎_elim}
@@ -117,4 +117,4 @@ module _ (test : ℕ → Bool) where
   some_found zero n l e = absurd (omega arith)
   some_found (suc k) n l e =
       ⊎_elim (λ m. ap (λ (x : Bool). x || test k) (some_found k n m e))
-      (λ (m : n ≡ k). ap (λ (x : Bool). some_below test k || x) (ap test (sym m) ∙ e) ∙ or_true (some_below test k)) (at_end k n l)
+      (λ (m : n ≡ k). ap (λ (x : Bool). some_below test k || x) (ap test (sym m) ∙ e) ∙ or-true (some_below test k)) (at_end k n l)
