@@ -14,7 +14,7 @@ use Rattle.format.specs.Text.{Bytes, all, is_name, starts_with_letter, ◌<$>◌
 use Rattle.format.specs.File.{Row, Body, File, decoded_at}
 use Rattle.format.specs.Tables.{Lent}
 use Rattle.format.specs.Judged.{Outcome, beginning, judged, accepted}
-use Rattle.format.specs.Good.{GoodBody, atoms, formula, row, Good}
+use Rattle.format.specs.Good.{GoodBody, atoms, formula, Good}
 use Rattle.format.specs.Written.{Each, Small}
 use Rattle.format.proofs.Booleans.{and_true}
 use Rattle.format.proofs.Tested.{passed_row}
