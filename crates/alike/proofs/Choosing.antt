@@ -4,7 +4,7 @@ use native.Mathlib.Omega.{arith}
 use mathlib.Core.Bool.{Bool, true, false, not, false≢true, true≢false}
 use mathlib.Core.List.Memᴰ
 use mathlib.Core.List.{List, [], ◌∷◌}
-use mathlib.Core.Logic.{◌⊎◌, ⊎_elim, ◌↔◌}
+use mathlib.Core.Logic.{⊎_elim, ◌↔◌}
 use mathlib.Core.Path.{◌≡◌, refl, sym, ap, subst, ◌∙◌}
 use lib.Dec.{eqb}
 use lib.ListN.{length, get_or, take, length-take}
@@ -13,7 +13,7 @@ use Rattle.equilibrium.specs.Meaning.{◌∈◌, Equal}
 use Rattle.format.specs.File.{Body, decoded_at}
 use Rattle.format.specs.Tables.{most_formulas, node_width}
 use Rattle.format.proofs.GoodBodies.{good_held, in_get_d}
-use Rattle.atomset.specs.AtomSet.{has, Member, members}
+use Rattle.atomset.specs.AtomSet.{Member, members}
 use Rattle.atomset.proofs.Members.{member_members, walk_ends}
 use Rattle.sides.specs.Deciding.{Decides}
 use Rattle.alike.specs.Under.{MarkedBefore, Room, Listed, StepsFilled}

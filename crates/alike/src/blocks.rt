@@ -7,7 +7,7 @@ ghost use Rattle.alike.specs.Blocks.{words_of, all_of, both_of, SameWords, joine
 use known::index::note;
 
 // Digit n of a block is digit n % 64 of word n / 64.
-#[derive(Drop)]
+#[derive(Clone, Copy)]
 pub(crate) struct Block {
     pub w0: u64,
     pub w1: u64,
@@ -17,7 +17,7 @@ pub(crate) struct Block {
 
 // The truth of a formula in 256 pairs (h,t) and in as many pairs (g,t), with one t and two parts of it; and in (t,t). Two at a time, since
 // a formula waits for its part that was judged just before it.
-#[derive(Drop)]
+#[derive(Clone, Copy)]
 pub(crate) struct Truth {
     pub here: Block,
     pub also: Block,
@@ -26,7 +26,7 @@ pub(crate) struct Truth {
 
 // What turns a conjunction into another connective: ones where its first part, its second part and the whole are denied, else zeros; and
 // ones where a pair (h,t) is looked at alone, as for a conjunction and a disjunction, and not (t,t) too.
-#[derive(Drop)]
+#[derive(Clone, Copy)]
 pub(crate) struct Signs {
     pub first: u64,
     pub second: u64,

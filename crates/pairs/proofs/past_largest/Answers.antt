@@ -11,7 +11,7 @@ pub loop-i-init : goal.loop-i-init
 loop-i-init c = (λ j l. absurd (omega arith), λ m f. omega arith)
 
 pub overflow_add-wide : goal.overflow_add-wide
-overflow_add-wide c = omega (arith, c.shared_slice_known-in-loop-i-1.given c.loop-i.i, c.wide.ensures)
+overflow_add-wide c = omega (arith, c.type_inv.side c.loop-i.i, c.wide.ensures)
 
 pub loop-i-preserved : goal.loop-i-preserved
 loop-i-preserved c =
