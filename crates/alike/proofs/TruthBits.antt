@@ -27,7 +27,7 @@ use Rattle.pairs.specs.Truths.{by_word}
 use Rattle.pairs.proofs.Truths.{and_self, each_node}
 use Rattle.alike.specs.Blocks.{digit, all_of, both_of, joined_of, raised_of, joined_truth, truth_words, truth_in, Roomy, TruthPut}
 use Rattle.alike.specs.Under.{PartOf, first_part, second_part, PartIn, slot_of, step_of, Steps}
-use Rattle.alike.specs.Truths.{here_at, there_at, place_of, View, first_of, second_of, PlaceSeen, made, alone, judged_here, judged_there}
+use Rattle.alike.specs.Truths.{here_at, there_at, place_of, View, first_view, second_view, PlaceSeen, made, alone, judged_here, judged_there}
 use Rattle.alike.specs.Truths.{JudgedSeen, Judged, Signed, JudgedNext, Pair, Seen, Right, Ready, JudgedAll}
 use Rattle.alike.specs.declared.blocks.Block.{Block}
 use Rattle.alike.specs.declared.blocks.Signs.{Signs}
@@ -170,8 +170,8 @@ module _ (key : NodeRecord) (places : List ℕ) (h g t k : ℕ) (table : List �
       → JudgedNext key places h g t k table table'
   judged_nothing p q r e f atom parts put = judged_simple put
       (subst (Judged key places h g t X Y) (sym (truth_is (p ∙ e) (q ∙ e) (r ∙ f))) (record {
-        first = of_none key places (first_of X) (first_of Y) h t atom parts;
-        second = of_none key places (second_of X) (second_of Y) g t atom parts;
+        first = of_none key places (first_view X) (first_view Y) h t atom parts;
+        second = of_none key places (second_view X) (second_view Y) g t atom parts;
       }))
 
   -- a connective
@@ -182,8 +182,8 @@ module _ (key : NodeRecord) (places : List ℕ) (h g t k : ℕ) (table : List �
       subst (Judged key places h g t X Y) (sym (e ∙ ap₂ (joined_truth s)
       (xe ∙ ap (λ (i : ℕ). truth_in table i) (at_x (room two).0))
       (ye ∙ ap (λ (i : ℕ). truth_in table i) (at_y (room two).1)))) (record {
-        first = of_joined key places (first_of X) (first_of Y) h t two five signed;
-        second = of_joined key places (second_of X) (second_of Y) g t two five signed;
+        first = of_joined key places (first_view X) (first_view Y) h t two five signed;
+        second = of_joined key places (second_view X) (second_view Y) g t two five signed;
       }))
 
 -- ---- the formulas of a good body
@@ -360,8 +360,8 @@ module _ (steps : List ℕ) (count : ℕ) (places : List ℕ) (h g t : ℕ) (tab
         -- the formula itself
         own : Right b places h g t i (truth_in table' (slot_of slots i))
         own = subst (λ (k : ℕ). Right b places h g t i (truth_in table' k)) (sym (ap (slot_of slots) is ∙ ready.placed j low)) (record {
-          first = seen first_of h in_h (λ p m. (before p m).first) digits.first;
-          second = seen second_of g in_g (λ p m. (before p m).second) digits.second;
+          first = seen first_view h in_h (λ p m. (before p m).first) digits.first;
+          second = seen second_view g in_g (λ p m. (before p m).second) digits.second;
         })
 
     pub judged_next : JudgedFrom steps count places h g t table₀ table' j

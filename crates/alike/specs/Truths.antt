@@ -40,19 +40,19 @@ pub record View : Type 0 where
   pub here : Block
   pub there : Block
 
-abbrev pub first_of : Truth → View
-first_of v = record { here = v.here; there = v.there }
+abbrev pub first_view : Truth → View
+first_view v = record { here = v.here; there = v.there }
 
-abbrev pub second_of : Truth → View
-second_of v = record { here = v.also; there = v.there }
+abbrev pub second_view : Truth → View
+second_view v = record { here = v.also; there = v.there }
 
 -- the truth of the atoms at a place
 abbrev pub PlaceSeen : ℕ → ℕ → ℕ → View → Type 0
 PlaceSeen place h t v = (n : ℕ) → n < pairs_at_once → (digit v.here n ≡ here_at h place n) × (digit v.there n ≡ there_at t place n)
 
 pub record PlaceTruth (place h g t : ℕ) (v : Truth) : Type 0 where
-  pub first : PlaceSeen place h t (first_of v)
-  pub second : PlaceSeen place g t (second_of v)
+  pub first : PlaceSeen place h t (first_view v)
+  pub second : PlaceSeen place g t (second_view v)
 
 -- what a connective makes of the truths of its parts; a negation has its part twice
 unfoldable pub made : ℕ → Bool → Bool → Bool
@@ -87,8 +87,8 @@ JudgedSeen r places h t x y v =
     (n : ℕ) → n < pairs_at_once → (digit v.here n ≡ judged_here r places h x y n) × (digit v.there n ≡ judged_there r places t x y n)
 
 pub record Judged (r : NodeRecord) (places : List ℕ) (h g t : ℕ) (x y v : Truth) : Type 0 where
-  pub first : JudgedSeen r places h t (first_of x) (first_of y) (first_of v)
-  pub second : JudgedSeen r places g t (second_of x) (second_of y) (second_of v)
+  pub first : JudgedSeen r places h t (first_view x) (first_view y) (first_view v)
+  pub second : JudgedSeen r places g t (second_view x) (second_view y) (second_view v)
 
 -- Slot k has the truth of a step by those at the slots of its parts, if the table has these; the other slots have what they had.
 pub record JudgedNext (r : NodeRecord) (places : List ℕ) (h g t k : ℕ) (table table' : List ℕ) : Type 0 where
@@ -112,8 +112,8 @@ Seen b places h t i v =
     → (digit v.here n ≡ holds_in h' t' (decoded_at b.nodes i)) × (digit v.there n ≡ holds_in t' t' (decoded_at b.nodes i))
 
 pub record Right (b : Body) (places : List ℕ) (h g t i : ℕ) (v : Truth) : Type 0 where
-  pub first : Seen b places h t i (first_of v)
-  pub second : Seen b places g t i (second_of v)
+  pub first : Seen b places h t i (first_view v)
+  pub second : Seen b places g t i (second_view v)
 
 -- a list of formulas of a good body, each of which has its parts after it, and its place there as its slot
 pub record Ready (b : Body) (formulas list slots : List ℕ) : Type 0 where

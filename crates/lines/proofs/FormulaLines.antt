@@ -119,12 +119,12 @@ record_fits b limits m e = cases m e
 
 -- ---- the numbers 4, 5 and 7, and then 8
 
-abbrev first_of : Bool → Bool → Bool → Option ℕ
-first_of out over ahead = first ((4 when out) ∷ (5 when over) ∷ (7 when ahead) ∷ [])
+abbrev first_number : Bool → Bool → Bool → Option ℕ
+first_number out over ahead = first ((4 when out) ∷ (5 when over) ∷ (7 when ahead) ∷ [])
 
 module _ (s : State) (n : ℕ) (node : Written) where
   by_tests : (out over ahead : Bool) → not_next s.stage (rank in_formulas) s.counts.formulas n ≡ out → leb most_formulas s.counts.formulas ≡ over
-      → ahead_in node s.counts ≡ ahead → (k : ℕ) → numbered k ≡ first_of out over ahead → FormulaNumbered s n node k
+      → ahead_in node s.counts ≡ ahead → (k : ℕ) → numbered k ≡ first_number out over ahead → FormulaNumbered s n node k
   by_tests out over ahead p q r k e = record { tests = e ∙ cc }
 
   pub number_out : not_next s.stage (rank in_formulas) s.counts.formulas n ≡ true → FormulaNumbered s n node 4
