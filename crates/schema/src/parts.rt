@@ -5,7 +5,7 @@ ghost use Rattle.schema.specs.Principal.{misfitting, split_in, parts_in};
 use tables::records::{node, wide};
 
 // The principal formula and its parts A and B; whether it is of the form that the rule asks for.
-#[derive(Drop)]
+#[derive(Clone, Copy)]
 pub struct Parts {
     pub fits: bool,
     pub whole: u16,
