@@ -23,7 +23,7 @@ use tables::records::wide;
 const MOST_SWAPPED: usize = 8;
 
 // Candidates judged together, and whether one of them is equal to the formula.
-#[derive(Drop)]
+#[derive(Clone, Copy)]
 struct Group {
     candidates: u64,
     equal: bool,

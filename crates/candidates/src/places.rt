@@ -15,7 +15,7 @@ use known::index::{note, put_note};
 pub(crate) const NO_PLACE: u64 = 8;
 
 // Places that are used, and whether no two atoms have one of them.
-#[derive(Drop)]
+#[derive(Clone, Copy)]
 struct Seats {
     apart: bool,
     used: u64,
