@@ -8,7 +8,7 @@ use counts::Counts;
 
 // The counts of what the tables hold; the stage, that is the kind of the last line; the atoms of the M line and its line, no atom
 // and 0 if there is none; and the line of the claim, 0 if there is none.
-#[derive(Drop)]
+#[derive(Clone, Copy)]
 pub struct State {
     pub counts: Counts,
     pub stage: u32,
@@ -29,7 +29,7 @@ pub const MODELLED: u32 = 3;
 pub const CLAIMED: u32 = 4;
 
 // What a line comes to: 0 with the state after it, or a refusal number with the line that it belongs to and the state before.
-#[derive(Drop)]
+#[derive(Clone, Copy)]
 pub struct Stepped {
     pub number: u32,
     pub line: u32,
