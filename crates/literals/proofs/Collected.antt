@@ -106,6 +106,10 @@ module _ {b : Body} where
   literal_left F s (shows_other u) left_atom = absurd u
   literal_left F s (shows_other u) left_negated = absurd u
   literal_left F s (shows_other u) left_verum = absurd u
+  literal_left _ _ shows_falsum m = elim m [ ]
+  literal_left _ _ (shows_doubled {p = p} _) m = elim m [ ]
+  literal_left _ _ (shows_conjunction {A = A} {B = B} {i = i} {j = j} _) m = elim m [ ]
+  literal_left _ _ (shows_disjunction {A = A} {B = B} {i = i} {j = j} _) m = elim m [ ]
 
   right_literal : (F : Formula) (s : Shape) → Shows b F s → is_verum s ≡ false → is_other s ≡ false → RightLiteral F
   right_literal F s shows_falsum e f = right_falsum
@@ -124,6 +128,10 @@ module _ {b : Body} where
   literal_right F s (shows_other u) right_atom = absurd u
   literal_right F s (shows_other u) right_negated = absurd u
   literal_right F s (shows_other u) right_falsum = absurd u
+  literal_right _ _ shows_verum m = elim m [ ]
+  literal_right _ _ (shows_doubled {p = p} _) m = elim m [ ]
+  literal_right _ _ (shows_conjunction {A = A} {B = B} {i = i} {j = j} _) m = elim m [ ]
+  literal_right _ _ (shows_disjunction {A = A} {B = B} {i = i} {j = j} _) m = elim m [ ]
 
   -- an atom other than p
   atom_other : (p : ℕ) (F : Formula) (s : Shape) → Shows b F s → atom_but p s ≡ true → (q : ℕ) × (F ≡ atom q) × (q ≢ p)

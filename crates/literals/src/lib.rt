@@ -11,7 +11,7 @@ use shapes::{Shape, shape_of};
 use sides::members::contains;
 
 // The literals of a side: its p and ~p as sets of atoms, whether it has # and ~#, and whether any other formula.
-#[derive(Drop)]
+#[derive(Clone, Copy)]
 struct Literals {
     pub atoms: u64,
     pub negated: u64,

@@ -1,5 +1,4 @@
--- `literals::literals_of` meets its contract. The invariant of its loop: the literals so far are those before place i.
-use Prim.Native.Nat.{ℕ, ◌-◌, ◌+◌, ◌≤◌, ◌<◌}
+use Prim.Native.Nat.{ℕ, ◌+◌, ◌≤◌, ◌<◌}
 use mathlib.Core.Bool.{Bool, false, ◌||◌}
 use mathlib.Core.List.{List}
 use mathlib.Core.Path.{◌≡◌, sym, ap, subst, ◌∙◌}
@@ -12,19 +11,8 @@ use Rattle.shapes.specs.declared.Shape.{Shape}
 use Rattle.literals.specs.declared.Literals.{Literals}
 use Rattle.shapes.proofs.Passes.{Passed, pass_starts, pass_goes_on, pass_ends}
 use borrow.Author.Rules.{rules}
-use Rattle.literals.proofs.literals_of.Statement.{statement}
-use Rattle.literals.proofs.literals_of.Tie as tie
-
--- the test of the formulas of a side
-abbrev shaped : (Shape → Bool) → List ℕ → ℕ → Bool
-shaped test formulas x = test (shape_in formulas x)
-
-record Collecting (formulas side : List ℕ) (found : Literals) (i : ℕ) : Type 0 where
-  atoms : (k : ℕ) → Passed (shaped (is_atom k) formulas) side (has found.atoms k) i
-  negated : (k : ℕ) → Passed (shaped (is_negated k) formulas) side (has found.negated k) i
-  falsum : Passed (shaped is_falsum formulas) side found.falsum i
-  verum : Passed (shaped is_verum formulas) side found.verum i
-  other : Passed (shaped is_other formulas) side found.other i
+use Rattle.literals.proofs.literals_of.Goals as goal
+use Rattle.literals.proofs.literals_of.Invariants.{shaped, Collecting}
 
 starts : (formulas side : List ℕ) → Collecting formulas side (record { atoms = 0; negated = 0; falsum = false; verum = false; other = false }) 0
 starts formulas side = record {
@@ -63,51 +51,11 @@ module _ {formulas side : List ℕ} {found : Literals} {i : ℕ} where
     other = pass_ends (shaped is_other formulas) side _ i h p.other;
   }
 
-abbrev invariant-loop : tie.invariant-loop
-invariant-loop formulas side found₀ i₀ found i = Collecting formulas side found i
+pub loop-i-init : goal.loop-i-init
+loop-i-init c = starts _ _
 
-abbrev decreases-loop : tie.decreases-loop
-decreases-loop formulas side found₀ i₀ found i = length side - i
+pub loop-i-preserved : goal.loop-i-preserved
+loop-i-preserved c = goes_on_lem (search rules) c.loop-i.invariant c.shape_of-s.ensures.answer c.with_literal-found.ensures
 
-loop-holds : tie.Need-loop-init invariant-loop decreases-loop
-loop-holds c = starts _ _
-
-mul-shape-of : tie.Need-overflow-mul-shape-of invariant-loop decreases-loop
-mul-shape-of c = search rules
-
-shared-slice-read-shape-of : tie.Need-shared-slice-read-shape-of invariant-loop decreases-loop
-shared-slice-read-shape-of c = search rules
-
-shape-of-requires : tie.Need-shape-of-requires invariant-loop decreases-loop
-shape-of-requires c κs = search rules
-
-with-literal-requires : tie.Need-with-literal-requires invariant-loop decreases-loop
-with-literal-requires c κs = search rules
-
-add-i : tie.Need-overflow-add-i invariant-loop decreases-loop
-add-i c = search rules
-
-loop-less : tie.Need-loop-smaller invariant-loop decreases-loop
-loop-less c = search rules
-
-loop-again : tie.Need-loop-preserved invariant-loop decreases-loop
-loop-again c = goes_on_lem (search rules) c.before.before.before.before.loop.invariant c.before.shape_of.ensures.answer c.with-literal.ensures
-
-returns : tie.Need-returns invariant-loop decreases-loop
-returns c = ends (search rules) c.before.loop.invariant
-
-pub literals_of_spec : {M : Type 1} → statement M
-literals_of_spec =
-    tie.close
-    (tie.spec
-    invariant-loop
-    decreases-loop
-    loop-holds
-    mul-shape-of
-    shared-slice-read-shape-of
-    shape-of-requires
-    with-literal-requires
-    add-i
-    loop-less
-    loop-again
-    returns)
+pub returns : goal.returns
+returns c = ends (search rules) c.loop-i.invariant
