@@ -3,7 +3,7 @@
 use Prim.Native.Nat.{ℕ, zero, suc, ◌+◌, ◌^◌, ◌≤◌, ◌<◌}
 use native.Mathlib.Numerals.{add-one}
 use native.Mathlib.Omega.{arith}
-use mathlib.Core.Bool.{Bool, true, false, not, ◌&&◌, ◌||◌, false≢true, true≢false, and-eq-true_iff}
+use mathlib.Core.Bool.{Bool, true, false, ◌&&◌, ◌||◌, false≢true, true≢false, and-eq-true_iff}
 use mathlib.Core.List.Memᴰ
 use mathlib.Core.List.{List, [], ◌∷◌}
 use mathlib.Core.Logic.{◌↔◌, ◌⊎◌, inl, inr, ⊎_elim}
@@ -244,7 +244,7 @@ module _ {formulas side l : List ℕ} {set others fixed i j : ℕ} (g : Passing 
               p = get_or (members by) 0 64
 
               there : p ∈ members by
-              there = subst (λ (is : List ℕ). p ∈ is) (sym (more_there (members by) e (ap not t))) (Memᴰ.head refl)
+              there = subst (λ (is : List ℕ). p ∈ is) (sym (more_there (members by) e t)) (Memᴰ.head refl)
 
               fixes_p : FixedBy formulas set others x p
               fixes_p = sym (b p) ∙ (member_members by small p).1 there
@@ -254,7 +254,7 @@ module _ {formulas side l : List ℕ} {set others fixed i j : ℕ} (g : Passing 
           passing_fails t = no_if (λ r f. left_fails formulas set others x xs (drop j l) (rising_here r) (rising_there r) (first ∙ n) none (left_of here r f))
             where
               none : (p : ℕ) → FixedBy formulas set others x p → ⊥
-              none p k = Memᴰ.not-nil (subst (λ (is : List ℕ). p ∈ is) (none_left (members by) e (ap not t)) ((member_members by small p).0 (b p ∙ k)))
+              none p k = Memᴰ.not-nil (subst (λ (is : List ℕ). p ∈ is) (none_left (members by) e t) ((member_members by small p).0 (b p ∙ k)))
 
   -- no formula is left
   module _ (h : length side ≤ i) where

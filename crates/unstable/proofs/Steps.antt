@@ -1,13 +1,13 @@
 -- What each step along K and along E makes of the answer for the whole. Any tables.
 use Prim.Native.Nat.{ℕ, ◌^◌, ◌<◌}
 use native.Mathlib.Omega.{arith}
-use mathlib.Core.Bool.{Bool, true, false, cond, not, ◌&&◌, ◌||◌, false≢true, true≢false, and-eq-true_iff}
+use mathlib.Core.Bool.{Bool, true, false, cond, ◌&&◌, ◌||◌, false≢true, true≢false, and-eq-true_iff}
 use mathlib.Core.List.Memᴰ
 use mathlib.Core.List.{List, [], ◌∷◌}
 use mathlib.Core.Logic.{◌↔◌, ◌⊎◌, inl, inr, ⊎_elim, ◌≢◌}
 use mathlib.Core.Option.{Option, none, some}
 use mathlib.Core.Path.{◌≡◌, refl, sym, ap, ap₂, subst, ◌∙◌}
-use borrow.Author.Tests.{eqb-true, eq-eqb, ne_eqb, lt-ltb, not-true, not_false}
+use borrow.Author.Tests.{eqb-true, eq-eqb, ne_eqb, lt-ltb}
 use lib.Dec.{eqb, ltb, eqb-suc-zero}
 use lib.ListN.{length, get_or, drop}
 use Rattle.equilibrium.specs.Meaning.{◌∈◌}
@@ -185,26 +185,26 @@ module _ (formulas : List ℕ) (e p : ℕ) where
 -- ---- a walk over the members of a word
 
 module _ (is : List ℕ) {empty : Bool} (e : empty ≡ eqb (length is) 0) where
-  pub more_there : not empty ≡ true → is ≡ get_or is 0 64 ∷ drop 1 is
-  more_there n = go is (sym e ∙ not-true empty n)
+  pub more_there : empty ≡ false → is ≡ get_or is 0 64 ∷ drop 1 is
+  more_there n = go is (sym e ∙ n)
     where
       go : (is : List ℕ) → eqb (length is) 0 ≡ false → is ≡ get_or is 0 64 ∷ drop 1 is
       go [] k = absurd (true≢false k)
       go (i ∷ is) k = refl
 
-  pub none_left : not empty ≡ false → is ≡ []
-  none_left n = go is (sym e ∙ not_false empty n)
+  pub none_left : empty ≡ true → is ≡ []
+  none_left n = go is (sym e ∙ n)
     where
       go : (is : List ℕ) → eqb (length is) 0 ≡ true → is ≡ []
       go [] k = refl
       go (i ∷ is) k = absurd (true≢false (sym k ∙ eqb-suc-zero (length is)))
 
-  pub walk_falls : not empty ≡ true → (later : List ℕ) → later ≡ drop 1 is → length later < length is
+  pub walk_falls : empty ≡ false → (later : List ℕ) → later ≡ drop 1 is → length later < length is
   walk_falls n later k = omega (arith, ap length k, ap length (more_there n))
 
 -- E along the members of a word
 module _ (formulas : List ℕ) (at p rest : ℕ) {empty : Bool} (e : empty ≡ eqb (length (members rest)) 0) where
-  module _ (n : not empty ≡ true) where
+  module _ (n : empty ≡ false) where
     pub middles_stop : conjuncts (shape_in formulas at) ≡ none → middles_in formulas at p (members rest) ≡ false
     middles_stop c = ap (middles_in formulas at p) (more_there (members rest) e n) ∙ middles_none formulas at p _ _ c
 
@@ -224,7 +224,7 @@ module _ (formulas : List ℕ) (at p rest : ℕ) {empty : Bool} (e : empty ≡ e
           both ∙ ap (λ (t : Bool). t && middles_in formulas y (get_or (members rest) 0 64) (drop 1 (members rest))) t
           ∙ ap₂ (middles_in formulas y) (sym a) (sym r)
 
-  pub middles_end : not empty ≡ false → middles_in formulas at p (members rest) ≡ middle_in formulas at p
+  pub middles_end : empty ≡ true → middles_in formulas at p (members rest) ≡ middle_in formulas at p
   middles_end n = ap (middles_in formulas at p) (none_left (members rest) e n) ∙ middles_last formulas at p
 
 -- the reading of K along the members of v, at a turn of the loop
@@ -252,7 +252,7 @@ reading_starts formulas k v p rest h f r = record { below = λ z m. small z (tai
 
 module _ {formulas : List ℕ} {k v p rest at set : ℕ} (g : Reading formulas k v p rest at set) {empty : Bool} (e : empty ≡ eqb (length (members rest)) 0) where
   -- where members are left
-  module _ (n : not empty ≡ true) where
+  module _ (n : empty ≡ false) where
     next : ℕ
     next = get_or (members rest) 0 64
 
@@ -288,7 +288,7 @@ module _ {formulas : List ℕ} {k v p rest at set : ℕ} (g : Reading formulas k
           there {z} i = subst (λ (is : List ℕ). z ∈ is) (sym (more_there (members rest) e n)) i
 
   -- where none is left
-  module _ (n : not empty ≡ false) {sign : ℕ} (f : sign ≡ sign_of (shape_in formulas at) p) where
+  module _ (n : empty ≡ true) {sign : ℕ} (f : sign ≡ sign_of (shape_in formulas at) p) where
     last : (q : ℕ) (qs : List ℕ) → members v ≡ q ∷ qs → Onward (choice_in formulas k q qs) formulas at p [] set
     last q qs h = subst (λ (is : List ℕ). Onward (choice_in formulas k q qs) formulas at p is set) (none_left (members rest) e n) (g.onward q qs h)
 

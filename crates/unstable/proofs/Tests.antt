@@ -1,7 +1,7 @@
 -- The tests of the running code, in their order, against what `unst` asks in any tables. For each way out: the answer there.
 use Prim.Native.Nat.{ℕ, ◌^◌, ◌<◌}
 use native.Mathlib.Omega.{arith}
-use mathlib.Core.Bool.{Bool, true, false, not, true≢false, false≢true}
+use mathlib.Core.Bool.{Bool, true, false, true≢false, false≢true}
 use mathlib.Core.List.{List, [], ◌∷◌}
 use mathlib.Core.Option.{Option, none, some}
 use mathlib.Core.Path.{◌≡◌, refl, sym, ap, subst, ◌∙◌}
@@ -94,7 +94,7 @@ module _ (formulas notes left leftOne rightOne leftTwo rightTwo : List ℕ) wher
           at_k f = ap (λ (xs : List ℕ). choice_in formulas (get_or xs 0 0) f.p f.ps) f.first_right ∙ f.read
 
       pub read_by :
-          left ≡ leftOne → length rightOne ≡ 1 → length rightTwo ≡ 1 → {empty : Bool} → empty ≡ eqb (length (members v)) 0 → not empty ≡ true
+          left ≡ leftOne → length rightOne ≡ 1 → length rightTwo ≡ 1 → {empty : Bool} → empty ≡ eqb (length (members v)) 0 → empty ≡ false
           → r.made ≡ true → r.set < 2 ^ 64
           → (c : Chosen) × Read v (get_or rightOne 0 0) (get_or rightTwo 0 0) c × WordOf (λ p. p ∈ chosen c) r.set
       read_by same one two e n made small =

@@ -50,7 +50,7 @@ fn with_sign(set: u64, p: usize, sign: u8) -> u64
 }
 
 // S, where K joins literals of all atoms of V.
-#[derive(Drop)]
+#[derive(Clone, Copy)]
 pub(crate) struct Choice {
     pub made: bool,
     pub set: u64,
