@@ -39,7 +39,7 @@ returns-then-not-fit c =
     (outside.lacks (o.premise_left.rising, (o.row_left.rising, tt)) inside) t in
     denied_if c.fit.ensures (c.if-not-fit.true) (o.row_left.rising, (o.premise_left.rising, tt))
     ((one_tested args.principal left left₁ c.number.ensures (omega (arith, c.ranges.principal)) c.number-then-at-left_one.ensures
-    (omega (arith, c.shared_slice_known-then-at-left_one-1.given at))).1 (subst (λ (x : ℕ). LeftsMeet args.principal x left left₁) only t)))
+    (omega (arith, c.type_inv.left_one at))).1 (subst (λ (x : ℕ). LeftsMeet args.principal x left left₁) only t)))
 
 pub returns-then-at-left_one : goal.returns-then-at-left_one
 returns-then-at-left_one c =
@@ -52,7 +52,7 @@ returns-then-at-left_one c =
     let here = in_get_d left₁ at 0 inside in
     let rights = (same_iff _ _).0 (sym c.same.ensures ∙ c.if-not-same.false) in
     let meets = (one_tested args.principal left left₁ c.number.ensures (omega (arith, c.ranges.principal)) c.number-then-at-left_one.ensures
-    (omega (arith, c.shared_slice_known-then-at-left_one-1.given at))).0 (c.fit.ensures.sound (c.if-not-fit.false)) in
+    (omega (arith, c.type_inv.left_one at))).0 (c.fit.ensures.sound (c.if-not-fit.false)) in
     candidates_given (get_or left₁ at 0 ∷ [])
     (λ b o. (
       λ z m. subst (λ (x : ℕ). x ∈ left₁) (sym (Memᴰ.eq_of_singleton m)) here,
