@@ -3,7 +3,7 @@
 use Prim.Native.Nat.{ℕ, ◌+◌, ◌≤◌, ◌<◌, min, max}
 use native.Mathlib.Omega.{arith}
 use mathlib.Core.Path.{◌≡◌, refl, sym, ap, ap₂, subst, ◌∙◌}
-use mathlib.Core.Bool.{Bool, true, false, not, ◌||◌, or_false}
+use mathlib.Core.Bool.{Bool, true, false, not, ◌||◌, or-false}
 use mathlib.Core.List.{List, [], ◌∷◌}
 use mathlib.Core.Option.{Option, none, some}
 use lib.Dec.{ltb, leb}
@@ -67,7 +67,7 @@ full_counted c l r = ap₂ (λ (s t : Bool). leb most_rows c.rows || s || t) (ov
 
 ahead_listed : (o : Option ℕ) (h : ℕ) → ahead_of (principal_as (some o)) h ≡ any (not_earlier h) (listed o)
 ahead_listed none h = refl
-ahead_listed (some i) h = sym (or_false (leb h i))
+ahead_listed (some i) h = sym (or-false (leb h i))
 
 -- the draft of a row, where nothing is stored beside it
 abbrev draft_of : Row → ℕ → ℕ → ℕ → Draft

@@ -83,6 +83,7 @@ swap_given b r e n (Memᴰ.head z) passes wide = ap numbered z ∙ none_given b 
 swap_given b r e n (Memᴰ.tail (Memᴰ.head z)) passes wide = ap numbered z ∙ sym ((row_eighteen_exactly b r).1 (wide.0 z))
 swap_given b r e n (Memᴰ.tail (Memᴰ.tail (Memᴰ.head z))) passes wide =
     ap numbered z ∙ eleven_given b r e (λ w. omega (arith, z, wide.1 w)) (λ i. omega (arith, z, passes.1 i))
+swap_given b r e n (Memᴰ.tail (Memᴰ.tail (Memᴰ.tail x14))) passes wide = elim x14 [ ]
 
 -- a row passes the tests before its rule and those of its rule exactly when it passes the first and is an instance
 passes_iff : (b : Body) (r : Row) (n : ℕ) → numbered n ≡ first (body_tests b r) → (n ≡ 0) ↔ ((first (early_tests b r) ≡ none) × RowInstance b r)

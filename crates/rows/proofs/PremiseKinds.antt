@@ -2,7 +2,7 @@
 -- `wrong_premises`.
 use Prim.Native.Nat.{ℕ, suc, ◌<◌}
 use native.Mathlib.Omega.{arith}
-use mathlib.Core.Bool.{Bool, true, false, not, ◌&&◌, ◌||◌, or_true, and-false}
+use mathlib.Core.Bool.{Bool, true, false, not, ◌&&◌, ◌||◌, or-true, and-false}
 use mathlib.Core.List.{List, [], ◌∷◌, ◌++◌, map}
 use mathlib.Core.Option.{Option, none, some}
 use mathlib.Core.Path.{◌≡◌, refl, sym, ap, ap₂, ◌∙◌}
@@ -160,7 +160,7 @@ module _ (b : Body) (q : Row) where
   unfolding wrong_premises asked
   kinds_differ e =
       ap (λ (t : Bool). not (same_truth (present q.principal) (has_principal (entry q.rule))) || not t) e
-      ∙ or_true (not (same_truth (present q.principal) (has_principal (entry q.rule))))
+      ∙ or-true (not (same_truth (present q.principal) (has_principal (entry q.rule))))
 
   kinds_same : truth_number (present q.principal) ≡ truth_number (has_principal (entry q.rule))
       → same_kinds (kinds_of b q) asked ≡ true → wrong_premises b q ≡ false
