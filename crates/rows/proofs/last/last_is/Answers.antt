@@ -1,6 +1,5 @@
 -- `rows::last::last_is` meets its contract. Assumes nothing.
 use mathlib.Core.Path.{ap, ◌∙◌}
-use borrow.Author.Tests.{not-false}
 use Rattle.rules.specs.RuleTable.{rule_number}
 use Rattle.tables.specs.declared.records.RowRecord.{RowRecord}
 use Rattle.rows.proofs.LastRow.{none_last, last_refutes, last_left, last_right, last_told}
@@ -26,4 +25,4 @@ returns c =
     let kind = c.rule_number.ensures ∙ ap (λ (x : RowRecord). rule_number x.rule 1) c.row-record.ensures in
     last_told _ _ _ _ _ _
     (last_right _ _ _ _ _ _ c.if-count-eq0.false _ kind c.if-rule_number-ne0.false _ c.fetch.ensures
-    _ c.same.ensures (not-false c.same.result c.if-not-same.false-raw) _ c.fetch-2.ensures _ c.same-2.ensures)
+    _ c.same.ensures c.if-not-same.false _ c.fetch-2.ensures _ c.same-2.ensures)
