@@ -10,7 +10,7 @@ use state::CLAIMED;
 
 // Refusal number and line; number 0 is acceptance, with a line that the call names: of a whole text the claim's.
 #[repr(C)]
-#[derive(Drop)]
+#[derive(Clone, Copy)]
 pub struct Answer {
     pub number: u32,
     pub line: u32,

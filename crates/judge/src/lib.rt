@@ -34,7 +34,7 @@ pub fn clear_all(
 
 // The answer, and the counts of the file that the tables hold; of none where the text is refused.
 #[repr(C)]
-#[derive(Drop)]
+#[derive(Clone, Copy)]
 pub struct Judged {
     pub answer: Answer,
     pub counts: Counts,

@@ -2,7 +2,7 @@
 use Prim.Native.Nat.{ℕ, zero, suc, ◌+◌, ◌-◌, ◌*◌, ◌%◌, ◌≤◌, ◌<◌}
 use native.Mathlib.Omega.{arith}
 use mathlib.Core.Path.{◌≡◌, refl, sym, ap, ap₂, subst, ◌∙◌}
-use mathlib.Core.Bool.{Bool, true, false, cond, not, ◌||◌, or_true, false≢true}
+use mathlib.Core.Bool.{Bool, true, false, cond, not, ◌||◌, or-true, false≢true}
 use mathlib.Core.List.Memᴰ
 use mathlib.Core.List.{List, [], ◌∷◌, ◌++◌}
 use mathlib.Core.Logic.{⊎_elim}
@@ -165,7 +165,7 @@ module _ (text : Bytes) (names : List ℕ) (s : State) (n : ℕ) (name : Bytes) 
         pub atom_used : (i : ℕ) → r ≡ Found.At i → AtomNumbered text names s n name 6
         atom_used i e =
             numbered_atom 6 (
-            sym (named true (ap (λ (b : Bool). not (is_name name) || b) (by_answer true (ap name_refusal e)) ∙ or_true (not (is_name name)))))
+            sym (named true (ap (λ (b : Bool). not (is_name name) || b) (by_answer true (ap name_refusal e)) ∙ or-true (not (is_name name)))))
 
         pub atom_new : is_name name ≡ true → r ≡ Found.Nowhere → AtomNumbered text names s n name 0
         atom_new e k = numbered_atom 0 (sym (named false (ap₂ (λ (a b : Bool). not a || b) e (by_answer false (ap name_refusal k)))))

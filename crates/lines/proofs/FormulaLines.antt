@@ -2,7 +2,7 @@
 use Prim.Native.Nat.{ℕ, ◌+◌, ◌*◌, ◌%◌, ◌≤◌, ◌<◌}
 use native.Mathlib.Omega.{arith}
 use mathlib.Core.Path.{◌≡◌, refl, sym, ap, ap₂, subst, ◌∙◌}
-use mathlib.Core.Bool.{Bool, true, false, cond, not, ◌||◌, or_false, true≢false}
+use mathlib.Core.Bool.{Bool, true, false, cond, not, ◌||◌, or-false, true≢false}
 use mathlib.Core.List.Memᴰ
 use mathlib.Core.List.{List, [], ◌∷◌, ◌++◌}
 use mathlib.Core.Option.{Option, none, some}
@@ -90,10 +90,10 @@ ahead_of : (b : Body) (m : Node) → ahead_in (written_as (some m)) (counts_of b
 unfolding ahead_in
 ahead_of b Node.bot = refl
 ahead_of b (Node.atom k) = refl
-ahead_of b (Node.not i) = sym (or_false (leb (length b.nodes) i))
-ahead_of b (Node.and i j) = ap (λ (t : Bool). leb (length b.nodes) i || t) (sym (or_false (leb (length b.nodes) j)))
-ahead_of b (Node.or i j) = ap (λ (t : Bool). leb (length b.nodes) i || t) (sym (or_false (leb (length b.nodes) j)))
-ahead_of b (Node.imp i j) = ap (λ (t : Bool). leb (length b.nodes) i || t) (sym (or_false (leb (length b.nodes) j)))
+ahead_of b (Node.not i) = sym (or-false (leb (length b.nodes) i))
+ahead_of b (Node.and i j) = ap (λ (t : Bool). leb (length b.nodes) i || t) (sym (or-false (leb (length b.nodes) j)))
+ahead_of b (Node.or i j) = ap (λ (t : Bool). leb (length b.nodes) i || t) (sym (or-false (leb (length b.nodes) j)))
+ahead_of b (Node.imp i j) = ap (λ (t : Bool). leb (length b.nodes) i || t) (sym (or-false (leb (length b.nodes) j)))
 
 -- a formula whose operands are earlier fits a record of 16-bit numbers
 record_fits : (b : Body) → Held b → (m : Node) → refers_ahead b m ≡ false → record_numbers (narrowed (written_as (some m))) ≡ node_record m

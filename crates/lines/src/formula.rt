@@ -17,7 +17,7 @@ use tables::records::{NodeRecord, narrow};
 use text::numbers::{Number, read_number};
 
 // A formula as it is written: a word from 0 to 5, and its operands, 65,535 where it has none.
-#[derive(Drop)]
+#[derive(Clone, Copy)]
 pub struct Written {
     pub well: bool,
     pub word: u32,

@@ -12,7 +12,7 @@ use state::State;
 
 // What the complete lines come to: 0 with the line and the place after the last one and the state there, or the number of the
 // first line that is refused and the line that it belongs to.
-#[derive(Drop)]
+#[derive(Clone, Copy)]
 pub struct Ran {
     pub number: u32,
     pub line: u32,

@@ -1,0 +1,29 @@
+-- `judge::judge` meets its contract: by the lengths first, and then by the run.
+use native.Mathlib.Omega.{arith}
+use mathlib.Core.Path.{sym, ap, ◌∙◌}
+use borrow.Author.Rules.{rules}
+use Rattle.format.specs.Tables.{too_short}
+use Rattle.run.specs.Lent.{five, lengths}
+use Rattle.judge.proofs.Whole.{judged_short, cleared_file, judges_same, clear_lengths, clear_zeros}
+use Rattle.judge.proofs.judge.Goals as goal
+
+pub returns-then-short : goal.returns-then-short
+returns-then-short c =
+    let args = c.args in
+    let lent = lengths (five args.names.now args.formulas.now args.rows.now args.left.now args.right.now) in
+    let short = judged_short args.text.now lent (sym c.too_short-short.ensures ∙ c.if-short.true) in
+    cleared_file args.text.now lent _ _ short (λ e. omega (arith, e)) c.clear_all.ensures c.none.ensures
+
+pub run_or_clear-requires : goal.run_or_clear-requires
+run_or_clear-requires c =
+    let args = c.args in
+    let lent = lengths (five args.names.now args.formulas.now args.rows.now args.left.now args.right.now) in
+    let same = clear_lengths _ lent c.clear_all.ensures in
+    let long_enough = sym c.too_short-short.ensures ∙ c.if-short.false in
+    (ap too_short same ∙ long_enough, clear_zeros _ lent c.clear_all.ensures)
+
+pub returns : goal.returns
+returns c =
+    let args = c.args in
+    let lent = lengths (five args.names.now args.formulas.now args.rows.now args.left.now args.right.now) in
+    judges_same (clear_lengths _ lent c.clear_all.ensures) c.run_or_clear.ensures
