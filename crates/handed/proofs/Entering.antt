@@ -4,7 +4,7 @@ use Prim.Native.Nat.{ℕ, zero, suc, ◌+◌, ◌≤◌, ◌<◌}
 use native.Mathlib.Numerals.{add-one}
 use native.Mathlib.Omega.{arith}
 use mathlib.Core.Path.{◌≡◌, refl, sym, ap, ap₂, subst, ◌∙◌}
-use mathlib.Core.Bool.{Bool, true, false, not, ◌&&◌, ◌||◌, and_true, true≢false, false≢true}
+use mathlib.Core.Bool.{Bool, true, false, not, ◌&&◌, ◌||◌, and-true, true≢false, false≢true}
 use mathlib.Core.List.{List, [], ◌∷◌}
 use mathlib.Core.Option.{Option, none, some}
 use lib.Dec.{eqb, leb, ltb}
@@ -69,7 +69,7 @@ module _ (b : Body) where
     pub bot_back : word ≡ 0 → (p q : Bool) → eqb one absent ≡ p → eqb two absent ≡ q → p && q ≡ refers_back b (node_from word one two)
     unfolding node_from
     bot_back e p q f g =
-        sym (ap back e ∙ back_if (eqb one absent && eqb two absent) Node.bot ∙ and_true (eqb one absent && eqb two absent) ∙ ap₂ ◌&&◌ f g)
+        sym (ap back e ∙ back_if (eqb one absent && eqb two absent) Node.bot ∙ and-true (eqb one absent && eqb two absent) ∙ ap₂ ◌&&◌ f g)
 
     pub atom_back : word ≡ 1 → (atoms : ℕ) → atoms ≡ b.atoms → (p q : Bool) → eqb two absent ≡ p → ltb one atoms ≡ q
         → p && q ≡ refers_back b (node_from word one two)

@@ -1,8 +1,8 @@
 -- What is known of a row by its record: its premises by two fields, its sides number by number, and its place. Assumes nothing.
-use Prim.Native.Nat.{ℕ, ◌+◌, ◌-◌, ◌≤◌, ◌<◌, max}
+use Prim.Native.Nat.{ℕ, ◌+◌, ◌≤◌, ◌<◌, max}
 use native.Mathlib.Omega.{arith}
 use mathlib.Core.Path.{◌≡◌, refl, sym, ap, ap₂, ◌∙◌}
-use mathlib.Core.Bool.{Bool, true, false, cond, not, ◌&&◌, ◌||◌, and_true, and-false}
+use mathlib.Core.Bool.{Bool, true, false, cond, not, ◌&&◌, ◌||◌, and-true, and-false}
 use mathlib.Core.List.{List, [], ◌∷◌, ◌++◌}
 use mathlib.Core.Logic.{◌⊎◌, inl, inr}
 use mathlib.Core.Option.{some}
@@ -49,7 +49,7 @@ module _ (one two : ℕ) where
       unfolding above strictly_rising
       premises_two past rising p r =
           let most : past ≡ max (one + 1) (max (two + 1) 0) = omega (arith, p) in
-          ap₂ (λ (k : ℕ) (b : Bool). listing true 2 k b) most (r ∙ sym (and_true (ltb one two)))
+          ap₂ (λ (k : ℕ) (b : Bool). listing true 2 k b) most (r ∙ sym (and-true (ltb one two)))
           ∙ ap listed_as (sym (premises_by false false (ne_eqb one absent ne) (ne_eqb two absent other)))
 
 -- ---- a side
@@ -70,7 +70,7 @@ side_more xs x i past rising past' rising' e room turn =
 
     rises : Turn x past rising past' rising' → rising' ≡ rising && leb past x
     rises (inl t) = t.2 ∙ sym (ap (λ (b : Bool). rising && b) (lt-leb past x t.0) ∙ and-false rising)
-    rises (inr t) = t.2 ∙ sym (ap (λ (b : Bool). rising && b) (le-leb past x t.0) ∙ and_true rising)
+    rises (inr t) = t.2 ∙ sym (ap (λ (b : Bool). rising && b) (le-leb past x t.0) ∙ and-true rising)
 
 -- ---- the place of a row
 

@@ -1,0 +1,10 @@
+-- `handed::derivation::draft_of` meets its contract. Assumes nothing.
+use Rattle.handed.proofs.derivation.draft_of.Goals as goal
+
+pub returns : goal.returns
+returns c =
+    let principal = c.principal_of.ensures in
+    let above = c.premises_listed.ensures in
+    let antecedent = c.side_listed.ensures in
+    let succedent = c.side_listed-2.ensures in
+    cc (principal, above, antecedent, succedent)
