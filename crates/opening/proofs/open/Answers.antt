@@ -1,0 +1,28 @@
+-- `opening::open` meets its contract: by the lengths first, and then by the run.
+use mathlib.Core.Path.{sym, ap, ◌∙◌}
+use Rattle.format.specs.Tables.{too_short}
+use Rattle.run.specs.Lent.{five, lengths}
+use Rattle.judge.proofs.Whole.{clear_lengths, clear_zeros}
+use Rattle.opening.proofs.Whole.{opened_short, opens_cleared, opens_same}
+use Rattle.opening.proofs.open.Goals as goal
+
+pub returns-then-short : goal.returns-then-short
+returns-then-short c =
+    let args = c.args in
+    let lent = lengths (five args.names.now args.formulas.now args.rows.now args.left.now args.right.now) in
+    let short = opened_short args.text.now lent (sym c.too_short-short.ensures ∙ c.if-short.true) in
+    opens_cleared args.text.now lent short c.clear_all.ensures c.none.ensures
+
+pub open_or_clear-requires : goal.open_or_clear-requires
+open_or_clear-requires c =
+    let args = c.args in
+    let lent = lengths (five args.names.now args.formulas.now args.rows.now args.left.now args.right.now) in
+    let same = clear_lengths _ lent c.clear_all.ensures in
+    let long_enough = sym c.too_short-short.ensures ∙ c.if-short.false in
+    (ap too_short same ∙ long_enough, clear_zeros _ lent c.clear_all.ensures)
+
+pub returns : goal.returns
+returns c =
+    let args = c.args in
+    let lent = lengths (five args.names.now args.formulas.now args.rows.now args.left.now args.right.now) in
+    opens_same (clear_lengths _ lent c.clear_all.ensures) c.open_or_clear.ensures
