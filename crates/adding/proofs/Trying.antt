@@ -165,7 +165,7 @@ module _ (t : Tables) (c : Counts) (text : Bytes) (l r : List ℕ) where
       record { number = sym (ap (λ (o : Outcome Body). number_in (ruling_of o)) e); line = sym (ap (λ (o : Outcome Body). line_in (ruling_of o)) e) }
 
   pub previews_passes : (d : Draft) → Tries t c text l r (Trial.Passes d) → Previews t c text (answer 0 1)
-  previews_passes d (Tries.passes b q x long is_open e tests drafted) =
+  previews_passes d (Tries.passes b q x long opened e tests read) =
       record { number = sym (ap (λ (o : Outcome Body). number_in (ruling_of o)) e); line = sym (ap (λ (o : Outcome Body). line_in (ruling_of o)) e) }
 
   pub adds_refused : (a : Answer) → Tries t c text l r (Trial.Refused a) → (added : Added) → added ≡ record { answer = a; file = record { counts = c } }
