@@ -21,7 +21,6 @@ use Rattle.parts.specs.Parts.{Fielded, field_by}
 use Rattle.parts.specs.declared.Fields.{Fields}
 use Rattle.parts.proofs.PartLaws.{field_found}
 use Rattle.keywords.specs.Words.{no_rule}
-use Rattle.tables.specs.Records.{written}
 use Rattle.drafts.specs.declared.Draft.{Draft}
 use Rattle.state.specs.Lined.{OfKind}
 use Rattle.lines.proofs.LineLaws.{row_written, line_row, list_laid}

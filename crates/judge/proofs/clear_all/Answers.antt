@@ -1,6 +1,5 @@
 -- `judge::clear_all` meets its contract: each table is cleared.
 use Rattle.run.specs.Lent.{five}
-use borrow.Author.Rules.{rules}
 use Rattle.judge.proofs.clear_all.Goals as goal
 
 pub returns : goal.returns

@@ -1,7 +1,6 @@
 -- `judge::judge` meets its contract: by the lengths first, and then by the run.
 use native.Mathlib.Omega.{arith}
 use mathlib.Core.Path.{sym, ap, ◌∙◌}
-use borrow.Author.Rules.{rules}
 use Rattle.format.specs.Tables.{too_short}
 use Rattle.run.specs.Lent.{five, lengths}
 use Rattle.judge.proofs.Whole.{judged_short, cleared_file, judges_same, clear_lengths, clear_zeros}

@@ -1,6 +1,5 @@
 -- `judge::run_or_clear` meets its contract: the tables stay where the run accepts, and are clear where it refuses.
 use mathlib.Core.Path.{refl}
-use borrow.Author.Rules.{rules}
 use Rattle.judge.proofs.Whole.{fresh_tables, judges_kept, judges_again_clear}
 use Rattle.judge.proofs.run_or_clear.Goals as goal
 

@@ -1,7 +1,6 @@
 -- `lines::step_line` meets its contract: the kind of the line picks the function that judges it. Assumes nothing.
 use native.Mathlib.Omega.{arith}
 use mathlib.Core.List.{[]}
-use borrow.Author.Rules.{rules}
 use Rattle.keywords.specs.declared.Kind.TheVariants.{Atom, Formula, Row, Model, Claim, Unknown}
 use Rattle.state.specs.State.{tables}
 use Rattle.lines.proofs.Dispatch.{kind_is, stepped_outside, stepped, stepped_unknown}

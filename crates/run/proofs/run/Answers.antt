@@ -1,9 +1,5 @@
-use Prim.Native.Nat.{◌-◌}
 use native.Mathlib.Omega.{arith}
-use borrow.Author.Rules.{rules}
-use lib.ListN.{length}
-use Rattle.state.specs.State.{tables}
-use Rattle.run.proofs.Running.{Reached, up_to, reached_start, reached_next, run_unread, run_out, run_refused}
+use Rattle.run.proofs.Running.{up_to, reached_start, reached_next, run_unread, run_out, run_refused}
 use Rattle.run.proofs.run.Goals as goal
 
 pub returns-then-text-gt-MOST_BYTES : goal.returns-then-text-gt-MOST_BYTES

@@ -1,10 +1,8 @@
 -- `run::run` meets its contract: the loop keeps `Reached`, and each return is one of its laws.
 use Prim.Native.Nat.{◌-◌}
-use native.Mathlib.Omega.{arith}
-use borrow.Author.Rules.{rules}
 use lib.ListN.{length}
 use Rattle.state.specs.State.{tables}
-use Rattle.run.proofs.Running.{Reached, up_to, reached_start, reached_next, run_unread, run_out, run_refused}
+use Rattle.run.proofs.Running.{Reached}
 use Rattle.run.proofs.run.Given as goal
 
 abbrev pub invariant-loop-end : goal.invariant-loop-end

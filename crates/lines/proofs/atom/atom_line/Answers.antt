@@ -1,5 +1,4 @@
 -- `lines::atom::atom_line` meets its contract: a bad line, a number that the atom earns, or the name stored. Assumes nothing.
-use borrow.Author.Rules.{rules}
 use Prim.Native.Nat.{◌+◌, ◌%◌}
 use native.Mathlib.Omega.{arith}
 use mathlib.Core.Path.{◌≡◌, sym, ap, ◌∙◌}

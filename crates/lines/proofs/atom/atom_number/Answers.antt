@@ -1,5 +1,4 @@
 -- `lines::atom::atom_number` meets its contract: each way out is one test of an atom. Assumes nothing.
-use borrow.Author.Rules.{rules}
 use mathlib.Core.Path.{sym, ◌∙◌}
 use borrow.Author.Tests.{not-true, not-false}
 use Rattle.lines.proofs.AtomLines.{atom_out, atom_full, atom_misnamed, atom_used, atom_new}

@@ -1,5 +1,4 @@
 -- `lines::claim::claim_number` meets its contract. Assumes nothing.
-use borrow.Author.Rules.{rules}
 use mathlib.Core.Path.{sym, ◌∙◌}
 use Rattle.lines.proofs.claim.claim_number.Goals as goal
 

@@ -1,6 +1,5 @@
 -- `lines::claim::settle_claim` meets its contract. Assumes nothing.
 use mathlib.Core.Path.{ap₂, ◌∙◌}
-use borrow.Author.Rules.{rules}
 use borrow.Author.Tests.{not-true, not-false}
 use Rattle.format.specs.Tests.{last_is}
 use Rattle.lines.proofs.ClaimLines.{model_told, settled_early, settled_differs, settled_unconfirmed, settled_claimed}

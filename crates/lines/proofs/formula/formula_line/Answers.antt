@@ -1,6 +1,5 @@
 -- `lines::formula::formula_line` meets its contract: a bad line, a number that the formula earns, or the formula entered. Assumes
 -- nothing.
-use borrow.Author.Rules.{rules}
 use borrow.Author.Tests.{not-true, not-false}
 use Rattle.lines.proofs.LineLaws.{line_bad}
 use Rattle.lines.proofs.FormulaLines.{

@@ -1,5 +1,4 @@
 -- `lines::formula::formula_number` meets its contract: each way out is one test of a formula. Assumes nothing.
-use borrow.Author.Rules.{rules}
 use mathlib.Core.Path.{sym, ◌∙◌}
 use Rattle.lines.proofs.FormulaLines.{number_out, number_full, number_ahead, number_none}
 use Rattle.lines.proofs.formula.formula_number.Goals as goal

@@ -1,5 +1,4 @@
 -- `lines::formula::read_node` meets its contract: each way out by the word and the form of the operands. Assumes nothing.
-use borrow.Author.Rules.{rules}
 use mathlib.Core.Path.{sym, ◌∙◌}
 use borrow.Author.Tests.{not-true, not-false}
 use Rattle.lines.proofs.FormulaFields.{no_word, bot_first, bot_second, bot_read, first_bad, one_operand_more, one_read, second_bad, two_read}

@@ -1,5 +1,4 @@
 -- `lines::formula::record_of` meets its contract. Assumes nothing.
-use borrow.Author.Rules.{rules}
 use Rattle.lines.proofs.formula.record_of.Goals as goal
 
 pub returns : goal.returns

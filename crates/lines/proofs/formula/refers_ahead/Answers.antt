@@ -1,5 +1,4 @@
 -- `lines::formula::refers_ahead` meets its contract: each way out by the word. Assumes nothing.
-use borrow.Author.Rules.{rules}
 use native.Mathlib.Omega.{arith}
 use Rattle.lines.proofs.FormulaLines.{no_operand, atom_ahead, first_ahead, one_earlier, second_ahead}
 use Rattle.lines.proofs.formula.refers_ahead.Goals as goal

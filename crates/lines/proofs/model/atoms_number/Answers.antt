@@ -1,5 +1,4 @@
 -- `lines::model::atoms_number` meets its contract. Assumes nothing.
-use borrow.Author.Rules.{rules}
 use mathlib.Core.Path.{sym, ◌∙◌}
 use Rattle.lines.proofs.model.atoms_number.Goals as goal
 

@@ -1,5 +1,4 @@
 -- `lines::model::model_line` meets its contract. Assumes nothing.
-use borrow.Author.Rules.{rules}
 use mathlib.Core.Path.{sym, ◌∙◌}
 use lib.Dec.{lit≤, lit<}
 use borrow.Author.Tests.{not-true, not-false}

@@ -2,7 +2,6 @@
 use mathlib.Core.List.{List}
 use mathlib.Core.Path.{subst}
 use Prim.Native.Nat.{ℕ}
-use borrow.Author.Rules.{rules}
 use Rattle.lines.specs.ModelLines.{WordRead}
 use Rattle.lines.proofs.ModelLines.{settled_refused, settled_modelled}
 use Rattle.lines.proofs.model.settle_model.Goals as goal

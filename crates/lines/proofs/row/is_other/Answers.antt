@@ -1,6 +1,5 @@
 -- `lines::row::is_other` meets its contract. Assumes nothing.
 use mathlib.Core.Path.{sym, ap, ◌∙◌}
-use borrow.Author.Rules.{rules}
 use Rattle.text.specs.declared.numbers.Number.{Number}
 use Rattle.lines.specs.RowLines.{other_in}
 use Rattle.lines.proofs.row.is_other.Goals as goal

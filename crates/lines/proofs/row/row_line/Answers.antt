@@ -5,7 +5,6 @@ use lib.Dec.{lit≤}
 use Rattle.lines.specs.RowLines.{with_rows}
 use Rattle.lines.proofs.LineLaws.{line_no_row, line_bad}
 use Rattle.lines.proofs.RowFields.{row_unread, row_found}
-use borrow.Author.Rules.{rules}
 use Rattle.lines.proofs.row.row_line.Goals as goal
 
 pub returns-then-fields-ne-MOST_FIELDS : goal.returns-then-fields-ne-MOST_FIELDS

@@ -1,7 +1,6 @@
 -- `lines::row::settle_row` meets its contract. Assumes nothing.
 use mathlib.Core.Path.{refl, sym, ◌∙◌}
 use Rattle.lines.proofs.RowLines.{settled_misplaced, settled_refused, settled_stored}
-use borrow.Author.Rules.{rules}
 use Rattle.lines.proofs.row.settle_row.Goals as goal
 
 pub returns-then-is_other : goal.returns-then-is_other
