@@ -17,14 +17,14 @@ use trial::{Trial, try_row};
 
 // An open file, by the counts of what its tables hold: handed in and handed back with each row.
 #[repr(C)]
-#[derive(Drop)]
+#[derive(Clone, Copy)]
 pub struct OpenFile {
     pub counts: Counts,
 }
 
 // The answer to a row, and the open file after it.
 #[repr(C)]
-#[derive(Drop)]
+#[derive(Clone, Copy)]
 pub struct Added {
     pub answer: Answer,
     pub file: OpenFile,
