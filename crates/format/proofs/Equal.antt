@@ -3,12 +3,13 @@
 use Prim.Native.Nat.{ℕ, ◌+◌, ◌≤◌, ◌<◌}
 use native.Mathlib.Numerals.{add-one}
 use mathlib.Core.Bool.{Bool, true, false, ◌&&◌}
-use mathlib.Core.List.{List}
+use mathlib.Core.List.{List, [], ◌∷◌}
 use mathlib.Core.Logic.{◌↔◌}
 use mathlib.Core.Path.{◌≡◌, refl, ap, ap₂, subst, ◌∙◌}
 use borrow.Author.Tests.{eq-eqb, ne_eqb}
 use lib.Dec.{eqb}
 use lib.ListN.{length, get_or, drop, drop_of_length-le}
+use lib.Pointwise.{pointwise}
 use lib.Seq.{drop-cons}
 use Rattle.format.specs.Text.{same_list}
 use Rattle.format.proofs.Booleans.{same_list_lem, list_same}
@@ -22,6 +23,14 @@ same_false a b n = by (same_list a b) refl
     by : (t : Bool) → same_list a b ≡ t → t ≡ false
     by true e = absurd (n ((same_iff a b).0 e))
     by false e = refl
+
+-- what `==` of two slices of numbers answers
+pub same_pointwise : (a b : List ℕ) → pointwise eqb a b ≡ same_list a b
+unfolding same_list
+same_pointwise [] [] = refl
+same_pointwise [] (y ∷ ys) = refl
+same_pointwise (x ∷ xs) [] = refl
+same_pointwise (x ∷ xs) (y ∷ ys) = ap (λ (rest : Bool). eqb x y && rest) (same_pointwise xs ys)
 
 module _ (a b : List ℕ) (i : ℕ) where
   -- past the end of both

@@ -1,5 +1,5 @@
 -- The refusal numbers that the readers' answers stand for (paper 01, "How a text is turned down").
-use Rattle.std.specs.Prelude.{ℕ, Bool, true, false}
+use Rattle.std.specs.Prelude.{ℕ, Bool, true, false, Option as Answer, None, Some}
 use Rattle.std.proofs.Math.Option.{Option, none, some}
 
 -- no LF, unknown kind or word, wrong fields, number or list badly written
@@ -15,3 +15,8 @@ bad_unless false = some bad_line
 abbrev pub bad_if_none : {A : Type 0} → Option A → Option ℕ
 bad_if_none none = some bad_line
 bad_if_none (some a) = none
+
+-- and of a reader's answer
+abbrev pub refusal_of : {A : Type 0} → Answer A → Option ℕ
+refusal_of None = some bad_line
+refusal_of (Some a) = none

@@ -11,17 +11,15 @@ ghost use Rattle.parts.specs.Parts.{next_at, Fielded, FieldPart};
 fn find_near(bytes: &[u8], from: usize, byte: u8) -> usize
     ensures { result ≡ next_at byte bytes.now from }
 {
-    let mut at = from;
-    while at < bytes.len() {
+    for at in from..bytes.len() {
         if bytes[at] == byte {
             return at;
         }
-        at += 1;
     }
     bytes.len()
 }
 
-// None of the 16 bytes from `at` on is `byte`. Every one is looked at, so that all can be compared at once.
+// None of the 16 bytes from `at` on is `byte`. Every one is looked at, so that all can be compared at once; `contains` stops at the first.
 fn block_lacks(bytes: &[u8], at: usize, byte: u8) -> bool
     requires { at + 16 ≤ length bytes.now }
     ensures { result ≡ true → next_at byte bytes.now at ≡ next_at byte bytes.now (at + 16) }
@@ -127,9 +125,5 @@ pub fn field(line: &[u8], fields: Fields, i: usize) -> &[u8]
 pub fn is_dash(field: &[u8]) -> bool
     ensures { result ≡ is "-" field.now }
 {
-    if field.len() == 1 {
-        field[0] == b'-'
-    } else {
-        false
-    }
+    field == b"-".as_slice()
 }

@@ -1,8 +1,8 @@
 -- What the readers of a list answer and store, as a function of what the field writes (`Rattle.format.specs.Text`).
-use Rattle.std.specs.Prelude.{ℕ, ◌+◌, ◌%◌, min, max, ◌≡◌, Bool, true, false, cond, List, [], ◌∷◌, ◌++◌, length, set}
-use Rattle.std.proofs.Math.Option.{Option, none, some}
+use Rattle.std.specs.Prelude.{ℕ, ◌+◌, ◌%◌, min, max, ◌≡◌, Bool, true, false, cond, List, [], ◌∷◌, ◌++◌, length, set, Option, None, Some}
+use Rattle.std.proofs.Math.Option as Math
 use Rattle.format.specs.Text.{Bytes, Item, comma, parts_at, is, list_of, meant_by, side_of, strictly_rising}
-use Rattle.parts.specs.Refusals.{bad_unless, bad_if_none}
+use Rattle.parts.specs.Refusals.{bad_if_none, refusal_of}
 use Rattle.text.specs.Items.{item_by}
 use Rattle.text.specs.declared.lists.Listed.{Listed}
 
@@ -21,23 +21,23 @@ laid_over [] out = out
 laid_over (x ∷ xs) [] = []
 laid_over (x ∷ xs) (o ∷ out) = x % 65536 ∷ laid_over xs out
 
-abbrev pub listed_as : Option (List ℕ) → Listed
-listed_as none = record { well = false; count = 0; above = 0; rising = false }
-listed_as (some xs) = record { well = true; count = min (length xs) most_counted; above = above xs; rising = strictly_rising xs }
+-- what is known of a list that is well written
+abbrev pub listed_of : List ℕ → Listed
+listed_of xs = record { count = min (length xs) most_counted; above = above xs; rising = strictly_rising xs }
 
--- the refusal number of an answer
-abbrev pub list_refusal : Listed → Option ℕ
-list_refusal listed = bad_unless listed.well
+abbrev pub listed_as : Math.Option (List ℕ) → Option Listed
+listed_as Math.none = None
+listed_as (Math.some xs) = Some (listed_of xs)
 
 -- the list that a field means: a side, which may hold runs, or numbers alone
-abbrev pub list_by : Bool → Bytes → Option (List ℕ)
+abbrev pub list_by : Bool → Bytes → Math.Option (List ℕ)
 list_by true field = side_of field
 list_by false field = list_of field
 
 -- what an item means in front of other numbers; nothing at all where it is badly written
-abbrev pub leads : Option Item → List ℕ → List ℕ
-leads none ns = []
-leads (some item) ns = meant_by item ++ ns
+abbrev pub leads : Math.Option Item → List ℕ → List ℕ
+leads Math.none ns = []
+leads (Math.some item) ns = meant_by item ++ ns
 
 -- what the parts mean before the first one that is no item
 abbrev pub items_ahead : Bool → List Bytes → List ℕ
@@ -49,11 +49,11 @@ unfoldable pub entries_of : Bool → Bytes → List ℕ
 entries_of runs field = cond (is "-" field) [] (items_ahead runs (parts_at comma field))
 
 -- the answer, and the table as it was and as it is left
-pub record ListedInto (runs : Bool) (field : Bytes) (was is : List ℕ) (r : Listed) : Type 0 where
+pub record ListedInto (runs : Bool) (field : Bytes) (was is : List ℕ) (r : Option Listed) : Type 0 where
   pub answer : r ≡ listed_as (list_by runs field)
-  pub refusal : list_refusal r ≡ bad_if_none (list_by runs field)
+  pub refusal : refusal_of r ≡ bad_if_none (list_by runs field)
   -- a list that is well written is stored
-  pub stored : (xs : List ℕ) → list_by runs field ≡ some xs → is ≡ laid_over xs was
+  pub stored : (xs : List ℕ) → list_by runs field ≡ Math.some xs → is ≡ laid_over xs was
   -- and of any list what stands before the first item that is badly written
   pub begun : is ≡ laid_over (entries_of runs field) was
   pub kept : length is ≡ length was
@@ -71,5 +71,5 @@ laid_at table at (x ∷ xs) = laid_at (set table at (x % 65536)) (at + 1) xs
 
 -- an answer and a table that hold these entries, where the table held others before
 pub record HeldList (xs was is : List ℕ) (r : Listed) : Type 0 where
-  pub answer : r ≡ listed_as (some xs)
+  pub answer : r ≡ listed_of xs
   pub stored : is ≡ laid_over xs was

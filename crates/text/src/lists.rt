@@ -1,20 +1,18 @@
 // Lists of numbers, with runs or without.
-ghost use Rattle.std.specs.Prelude.{◌≡◌, true, false, List, [], ◌++◌, ℕ, ◌+◌, ◌-◌, ◌≤◌, ◌%◌, min, max, set};
-ghost use Rattle.std.proofs.Math.Option.{some};
+ghost use Rattle.std.specs.Prelude.{◌≡◌, true, false, List, [], ◌++◌, ℕ, ◌+◌, ◌-◌, ◌≤◌, ◌%◌, min, set};
 ghost use Rattle.format.specs.Text.{is};
-ghost use Rattle.text.specs.Lists.{most_counted, spanned, laid_at, listed_as, ListedInto, HeldList};
+ghost use Rattle.text.specs.Lists.{most_counted, spanned, laid_at, listed_of, ListedInto, HeldList};
 
-use crate::items::{Span, read_item};
+use crate::items::read_item;
 use parts::is_dash;
 
 // A count stops here. No slice is as long.
 const MOST_COUNTED: usize = 9223372036854775808;
 
-// What is known of a list: whether it is well written; and if it is, how many entries it has, written out, the least number above
-// them all (0 if there is none), and whether they rise strictly. Of a badly written list all is 0 and false.
+// What is known of a list that is well written: how many entries it has, written out, the least number above them all (0 if there is
+// none), and whether they rise strictly.
 #[derive(Clone, Copy)]
 pub struct Listed {
-    pub well: bool,
     pub count: usize,
     pub above: usize,
     pub rising: bool,
@@ -26,39 +24,19 @@ fn counted(count: usize, first: u32, last: u32) -> usize
     ensures { result ≡ min (count + (last - first + 1)) most_counted }
 {
     let sum = count + (last - first) as usize + 1;
-    if sum < MOST_COUNTED {
-        return sum;
-    }
-    MOST_COUNTED
-}
-
-fn larger(m: usize, n: usize) -> usize
-    ensures { result ≡ max m n }
-{
-    if m < n {
-        return n;
-    }
-    m
+    sum.min(MOST_COUNTED)
 }
 
 // What is known of a list after the numbers from `first` to `last`.
 fn entered(listed: Listed, first: u32, last: u32) -> Listed
     requires { (listed.count ≤ most_counted) × (first ≤ last) }
-    ensures { (xs : List ℕ) → listed ≡ listed_as (some xs) → result ≡ listed_as (some (xs ++ spanned first last)) }
+    ensures { (xs : List ℕ) → listed ≡ listed_of xs → result ≡ listed_of (xs ++ spanned first last) }
 {
     Listed {
-        well: true,
         count: counted(listed.count, first, last),
-        above: larger(listed.above, last as usize + 1),
+        above: listed.above.max(last as usize + 1),
         rising: listed.rising && listed.above <= first as usize,
     }
-}
-
-// What 16 bits hold of a number.
-fn narrow(n: u32) -> u16
-    ensures { result ≡ n % 65536 }
-{
-    (n % 65536) as u16
 }
 
 // A number is stored as far as the table is long.
@@ -66,7 +44,7 @@ fn store(out: &mut [u16], at: usize, n: u32)
     ensures { out.new ≡ set out.old at (n % 65536) }
 {
     if at < out.len() {
-        out[at] = narrow(n);
+        out[at] = (n % 65536) as u16;
     }
 }
 
@@ -78,7 +56,7 @@ fn store_run(out: &mut [u16], at: usize, first: u32, last: u32)
     let mut place = at;
     let mut n = first;
     while place < out.len() {
-        out[place] = narrow(n);
+        out[place] = (n % 65536) as u16;
         if n == last {
             return;
         }
@@ -102,10 +80,9 @@ fn enter(listed: Listed, first: u32, last: u32, out: &mut [u16]) -> Listed
 
 // A list without entries.
 fn no_entries() -> Listed
-    ensures { result ≡ listed_as (some []) }
+    ensures { result ≡ listed_of [] }
 {
     Listed {
-        well: true,
         count: 0,
         above: 0,
         rising: true,
@@ -114,46 +91,38 @@ fn no_entries() -> Listed
 
 // The items that a field writes, read to its end. The entries that they mean are stored into `out`, as far as that is long; of a
 // badly written list those before the first bad item.
-fn read_items(field: &[u8], runs: bool, out: &mut [u16]) -> Listed
+fn read_items(field: &[u8], runs: bool, out: &mut [u16]) -> Option<Listed>
     requires { is "-" field.now ≡ false }
     ensures { ListedInto runs field.now out.old out.new result }
 {
     let mut listed = no_entries();
     let mut at: usize = 0;
     loop {
-        let item = read_item(field, at, runs);
-        let Span::Of(first, last, end) = item else {
-            return Listed {
-                well: false,
-                count: 0,
-                above: 0,
-                rising: false,
-            };
-        };
-        listed = enter(listed, first, last, out);
-        if end == field.len() {
-            return listed;
+        let item = read_item(field, at, runs)?;
+        listed = enter(listed, item.first, item.last, out);
+        if item.end == field.len() {
+            return Some(listed);
         }
-        at = end + 1;
+        at = item.end + 1;
     }
 }
 
-// A list of numbers alone.
-pub fn read_list(field: &[u8], out: &mut [u16]) -> Listed
+// A list of numbers alone; None where it is badly written.
+pub fn read_list(field: &[u8], out: &mut [u16]) -> Option<Listed>
     ensures { ListedInto false field.now out.old out.new result }
 {
     if is_dash(field) {
-        return no_entries();
+        return Some(no_entries());
     }
     read_items(field, false, out)
 }
 
 // A side, or the atoms of a model: a list that may hold runs.
-pub fn read_side(field: &[u8], out: &mut [u16]) -> Listed
+pub fn read_side(field: &[u8], out: &mut [u16]) -> Option<Listed>
     ensures { ListedInto true field.now out.old out.new result }
 {
     if is_dash(field) {
-        return no_entries();
+        return Some(no_entries());
     }
     read_items(field, true, out)
 }

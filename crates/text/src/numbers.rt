@@ -1,38 +1,11 @@
 // Numbers, and the principal formula of a row.
 ghost use Rattle.std.specs.Prelude.{◌≡◌, ◌≤◌, length};
-ghost use Rattle.format.specs.Text.{is_digit};
 ghost use Rattle.text.specs.Numbers.{NumberRead, PrincipalRead, number_at};
 
 use parts::is_dash;
 
-// A number is at most 99,999, so that a value never wraps.
-#[derive(Clone, Copy)]
-pub enum Number {
-    Value(u32),
-    Bad,
-}
-
-pub(crate) fn is_digit(b: u8) -> bool
-    ensures { result ≡ is_digit b }
-{
-    b'0' <= b && b <= b'9'
-}
-
-fn wide32(b: u8) -> u32
-    ensures { result ≡ b }
-{
-    b as u32
-}
-
-// A number within a field, and where it ends.
-#[derive(Clone, Copy)]
-pub(crate) enum Entry {
-    Value(u32, usize),
-    Bad,
-}
-
-// The number that the run of digits from `at` on writes.
-pub(crate) fn number_at(field: &[u8], at: usize) -> Entry
+// The number that the run of digits from `at` on writes, and where it ends. A number is at most 99,999, so that a value never wraps.
+pub(crate) fn number_at(field: &[u8], at: usize) -> Option<(u32, usize)>
     requires { at ≤ length field.now }
     ensures { result ≡ number_at field.now at }
 {
@@ -40,59 +13,45 @@ pub(crate) fn number_at(field: &[u8], at: usize) -> Entry
     let mut end = at;
     while end < field.len() {
         let b = field[end];
-        if !is_digit(b) {
+        if !b.is_ascii_digit() {
             break;
         }
         if end - at == 5 {
-            return Entry::Bad;
+            return None;
         }
-        value = value * 10 + (wide32(b) - 48);
+        value = value * 10 + u32::from(b - b'0');
         end += 1;
     }
     if end == at {
-        return Entry::Bad;
+        return None;
     }
     // A 0 may only come first where it stands alone.
     if end == at + 1 {
-        return Entry::Value(value, end);
+        return Some((value, end));
     }
     if field[at] == b'0' {
-        return Entry::Bad;
+        return None;
     }
-    Entry::Value(value, end)
+    Some((value, end))
 }
 
-// The number that a field writes.
-pub fn read_number(field: &[u8]) -> Number
+// The number that a field writes; None where it is badly written.
+pub fn read_number(field: &[u8]) -> Option<u32>
     ensures { NumberRead field.now result }
 {
-    let number = number_at(field, 0);
-    let Entry::Value(n, end) = number else {
-        return Number::Bad;
-    };
+    let (n, end) = number_at(field, 0)?;
     if end < field.len() {
-        return Number::Bad;
+        return None;
     }
-    Number::Value(n)
+    Some(n)
 }
 
-#[derive(Clone, Copy)]
-pub enum Optional {
-    Absent,
-    Value(u32),
-    Bad,
-}
-
-// The principal formula that a field names, or `-`.
-pub fn read_principal(field: &[u8]) -> Optional
+// The principal formula that a field names, `Some(None)` for `-`; None where it is badly written.
+pub fn read_principal(field: &[u8]) -> Option<Option<u32>>
     ensures { PrincipalRead field.now result }
 {
     if is_dash(field) {
-        return Optional::Absent;
+        return Some(None);
     }
-    let number = read_number(field);
-    match number {
-        Number::Value(n) => Optional::Value(n),
-        Number::Bad => Optional::Bad,
-    }
+    read_number(field).map(Some)
 }
