@@ -7,3 +7,4 @@ pub mod fitting;
 pub mod members;
 mod merging;
 pub mod numbers;
+pub mod sequents;
