@@ -1,2 +1,3 @@
 -- What the contracts of `src/lib.rt` and the laws of `proofs/` cite.
 pub mod AtomSet
+pub mod Walk

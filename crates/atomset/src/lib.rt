@@ -5,7 +5,9 @@
 #![tactic(auto)]
 
 ghost use Rattle.std.specs.Prelude.{◌≡◌, ◌↔◌, true, ◌||◌, ◌&&◌, not, ℕ, eqb, ltb, length, get_or, drop};
+ghost use Rattle.std.specs.Iterator.{YieldsFirst, item_count};
 ghost use Rattle.atomset.specs.AtomSet.{has, Included, members};
+ghost use Rattle.atomset.specs.Walk.{members_left};
 
 pub fn contains(set: u64, atom: usize) -> bool
     ensures { result ≡ has set atom }
@@ -87,4 +89,34 @@ pub fn without_first(set: u64) -> u64
         return 0;
     }
     set & (set - 1)
+}
+
+// The members of a set that are still to come, the lowest first: what `members_of` gives a `for`.
+#[derive(Clone, Copy)]
+pub struct SetIter {
+    rest: u64,
+}
+
+impl Iterator for SetIter {
+    type Item = usize;
+
+    ghost next_gives = { YieldsFirst members_left };
+
+    ghost remaining = { item_count members_left };
+
+    fn next(&mut self) -> Option<usize> {
+        if is_empty(self.rest) {
+            return None;
+        }
+        let atom = first(self.rest);
+        self.rest = without_first(self.rest);
+        Some(atom)
+    }
+}
+
+// The members of a set, in rising order.
+pub fn members_of(set: u64) -> SetIter
+    ensures { members_left result ≡ members set }
+{
+    SetIter { rest: set }
 }
