@@ -6,9 +6,8 @@ use Rattle.format.specs.File.{File}
 use Rattle.format.specs.Tables.{most_bytes}
 use Rattle.format.specs.Judged.{Place, step}
 use Rattle.format.specs.Good.{Good}
-use Rattle.state.specs.State.{Memory, Stored, Steps, Keeps}
+use Rattle.state.specs.State.{Stepped, Memory, Stored, Steps, Keeps}
 use Rattle.state.specs.declared.State.{State}
-use Rattle.state.specs.declared.Stepped.{Stepped}
 
 -- the first field of the line is this word
 abbrev pub OfKind : String → Bytes → Type 0
@@ -19,6 +18,4 @@ pub record Lined (text : Bytes) (start : ℕ) (line : Bytes) (number : ℕ) (s :
   pub steps :
       (f : File) (p : Place) (done : List Bytes) → Good done f → Stored text f s t → length text ≤ most_bytes → p.start ≡ start → p.line ≡ number
       → Steps text (step f p line) r u
-  -- a line that passes is given its own number
-  pub own_line : r.number ≡ 0 → r.line ≡ number
-  pub keeps : Keeps s r t u
+  pub keeps : Keeps r t u

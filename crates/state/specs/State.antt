@@ -1,5 +1,7 @@
 -- What the lent tables and the state hold between two lines: the file that the accepted beginning comes to.
-use Rattle.std.specs.Prelude.{ℕ, ◌≤◌, ◌*◌, ◌≡◌, Bool, cond, not, ◌&&◌, ◌||◌, List, [], eqb, ltb, length}
+use Rattle.std.specs.Prelude
+use Rattle.std.specs.Prelude.{ℕ, ◌≤◌, ◌*◌, ◌≡◌, Bool, not, ◌&&◌, ◌||◌, List, [], eqb, ltb, length, Some, None, Result, Err, IsOkAnd, IsErrAnd}
+use Rattle.std.specs.Result.{ForErr}
 use Rattle.std.proofs.Math.Option.{Option, none, some}
 use Rattle.equilibrium.specs.Meaning.{◌∈◌}
 use Rattle.format.specs.Text.{Bytes}
@@ -12,46 +14,43 @@ use Rattle.counts.specs.Counts.{counts_of, no_counts}
 use Rattle.known.specs.Known.{Known}
 use Rattle.tables.specs.Names.{StandsIn}
 use Rattle.counts.specs.declared.Counts.{Counts}
+use Rattle.refusals.specs.Refusals.{number_of}
+use Rattle.refusals.specs.declared.Refusal.{Refusal}
 use Rattle.state.specs.declared.State.{State}
-use Rattle.state.specs.declared.Stepped.{Stepped}
+use Rattle.state.specs.declared.ModelLine.{ModelLine}
+use Rattle.state.specs.declared.Refused.{Refused}
+
+-- what a line comes to: the state after it, or a refusal with the line that it belongs to
+abbrev pub Stepped : Type 0
+Stepped = Result State Refused
 
 abbrev pub start : State
-start = record { counts = no_counts; stage = rank in_atoms; model = 0; model_line = 0; claim = 0 }
+start = record { counts = no_counts; stage = rank in_atoms; model = None; claim = None }
 
--- a refusal: the number, the line that it belongs to, and the state as it was
-abbrev pub refused_by : State → ℕ → ℕ → Stepped
-refused_by s number line = record { number = number; line = line; state = s }
+-- a refusal, and the line that it belongs to
+abbrev pub refused_by : Refusal → ℕ → Stepped
+refused_by refusal line = Err (record { refusal = refusal; line = line })
 
 -- the state after a line of this stage
-abbrev pub passed_by : State → Counts → ℕ → ℕ → Stepped
-passed_by s counts stage line =
-    record {
-      number = 0;
-      line = line;
-      state = record { counts = counts; stage = stage; model = s.model; model_line = s.model_line; claim = s.claim };
-    }
+abbrev pub passed_by : State → Counts → ℕ → State
+passed_by s counts stage = record { counts = counts; stage = stage; model = s.model; claim = s.claim }
 
 -- the state after an M line of these atoms
-abbrev pub modelled_by : State → ℕ → ℕ → Stepped
-modelled_by s model line =
-    record {
-      number = 0;
-      line = line;
-      state = record { counts = s.counts; stage = rank modelled; model = model; model_line = line; claim = s.claim };
-    }
+abbrev pub modelled_by : State → ℕ → ℕ → State
+modelled_by s atoms line =
+    record { counts = s.counts; stage = rank modelled; model = Some (record { atoms = atoms; line = line }); claim = s.claim }
 
 -- the state after a claim
-abbrev pub claimed_by : State → ℕ → Stepped
-claimed_by s line =
-    record {
-      number = 0;
-      line = line;
-      state = record { counts = s.counts; stage = rank claimed; model = s.model; model_line = s.model_line; claim = line };
-    }
+abbrev pub claimed_by : State → ℕ → State
+claimed_by s line = record { counts = s.counts; stage = rank claimed; model = s.model; claim = Some line }
 
--- the line that a refusal of the model belongs to: the M line, if that was the last one, or this one
+-- the line that a refusal of the model belongs to: the M line, or this one if there is none
+abbrev pub report_of : Prelude.Option ModelLine → ℕ → ℕ
+report_of None line = line
+report_of (Some m) line = m.line
+
 abbrev pub model_report : State → ℕ → ℕ
-model_report s line = cond (eqb s.stage (rank modelled)) s.model_line line
+model_report s line = report_of s.model line
 
 -- a line of the stage `coming` may not follow, by the numbers of the stages
 unfoldable pub out_of_turn : ℕ → ℕ → Bool
@@ -61,18 +60,17 @@ out_of_turn stage coming = not (ltb stage coming || (eqb stage coming && ltb com
 unfoldable pub not_next : ℕ → ℕ → ℕ → ℕ → Bool
 not_next stage coming held number = out_of_turn stage coming || not (eqb number held)
 
--- the atoms of the M line, and its line; no atom and 0 if there is none
-abbrev pub model_atoms : Option Model → List ℕ
-model_atoms none = []
-model_atoms (some m) = m.atoms
+-- the atoms of the M line as one word, and its line, if there is one
+abbrev pub ModelHeld : Option Model → Prelude.Option ModelLine → Type 0
+ModelHeld none None = Unit {0}
+ModelHeld none (Some m) = ⊥
+ModelHeld (some m) None = ⊥
+ModelHeld (some m) (Some held) = (members held.atoms ≡ m.atoms) × (held.line ≡ m.line)
 
-abbrev pub model_line : Option Model → ℕ
-model_line none = 0
-model_line (some m) = m.line
-
-abbrev pub claim_line : Option Claim → ℕ
-claim_line none = 0
-claim_line (some c) = c.line
+-- the line of the claim, if there is one
+abbrev pub claim_line : Option Claim → Prelude.Option ℕ
+claim_line none = None
+claim_line (some c) = Some c.line
 
 -- the contents of the lent tables, and of the notes on the formulas
 pub record Memory : Type 0 where
@@ -113,8 +111,7 @@ pub record Stored (text : Bytes) (f : File) (s : State) (t : Memory) : Type 0 wh
   pub full : Full t
   pub counts : s.counts ≡ counts_of f.body
   pub stage : s.stage ≡ rank f.stage
-  pub model : members s.model ≡ model_atoms f.model
-  pub model_line : s.model_line ≡ model_line f.model
+  pub model : ModelHeld f.model s.model
   pub claim : s.claim ≡ claim_line f.claim
   pub names_in : (n : Name) → n ∈ f.names → StandsIn text n
   pub names : Exactly (join_all name_record f.names) t.names
@@ -126,10 +123,10 @@ pub record Stored (text : Bytes) (f : File) (s : State) (t : Memory) : Type 0 wh
 
 -- what one line does: the file with the line is stored, or its number and line are given
 abbrev pub Steps : Bytes → Outcome File → Stepped → Memory → Type 0
-Steps text (next f) r t = (r.number ≡ 0) × Stored text f r.state t
-Steps text (refused n l) r t = (r.number ≡ n) × (r.line ≡ l)
+Steps text (next f) r t = IsOkAnd r (λ s. Stored text f s t)
+Steps text (refused n l) r t = IsErrAnd r (λ e. (number_of e.refusal ≡ n) × (e.line ≡ l))
 
--- what holds of a line in any tables: one that is refused leaves tables and state as they were, and no length changes
-pub record Keeps (s : State) (r : Stepped) (t u : Memory) : Type 0 where
-  pub kept : (r.number ≡ 0 → ⊥) → (u ≡ t) × (r.state ≡ s)
+-- what holds of a line in any tables: one that is refused leaves them as they were, and no length changes
+pub record Keeps (r : Stepped) (t u : Memory) : Type 0 where
+  pub kept : ForErr r (λ e. u ≡ t)
   pub lengths : SameLengths t u

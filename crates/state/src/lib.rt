@@ -2,19 +2,26 @@
 #![tactic(auto)]
 
 ghost use Rattle.std.specs.Prelude.{◌≡◌};
-ghost use Rattle.state.specs.State.{start, refused_by, passed_by, modelled_by, claimed_by, model_report, out_of_turn, not_next};
+ghost use Rattle.state.specs.State.{start, passed_by, modelled_by, claimed_by, model_report, out_of_turn, not_next};
 
 use counts::Counts;
+use refusals::Refusal;
 
-// The counts of what the tables hold; the stage, that is the kind of the last line; the atoms of the M line and its line, no atom
-// and 0 if there is none; and the line of the claim, 0 if there is none.
+// The M line: its atoms as one word, and its number.
+#[derive(Clone, Copy)]
+pub struct ModelLine {
+    pub atoms: u64,
+    pub line: u32,
+}
+
+// The counts of what the tables hold; the stage, that is the kind of the last line; the M line, and the line of the claim, if there
+// is one.
 #[derive(Clone, Copy)]
 pub struct State {
     pub counts: Counts,
     pub stage: u32,
-    pub model: u64,
-    pub model_line: u32,
-    pub claim: u32,
+    pub model: Option<ModelLine>,
+    pub claim: Option<u32>,
 }
 
 // The stages, in their order.
@@ -28,12 +35,11 @@ pub const MODELLED: u32 = 3;
 
 pub const CLAIMED: u32 = 4;
 
-// What a line comes to: 0 with the state after it, or a refusal number with the line that it belongs to and the state before.
+// What a text is refused for, and the line that the refusal belongs to.
 #[derive(Clone, Copy)]
-pub struct Stepped {
-    pub number: u32,
+pub struct Refused {
+    pub refusal: Refusal,
     pub line: u32,
-    pub state: State,
 }
 
 impl State {
@@ -44,54 +50,30 @@ impl State {
         State {
             counts: Counts::none(),
             stage: ATOMS,
-            model: 0,
-            model_line: 0,
-            claim: 0,
-        }
-    }
-
-    pub fn refused(self, number: u32, line: u32) -> Stepped
-        ensures { result ≡ refused_by self number line }
-    {
-        Stepped {
-            number,
-            line,
-            state: self,
+            model: None,
+            claim: None,
         }
     }
 
     // The state after a line of this stage that passed.
-    pub fn passed(self, counts: Counts, stage: u32, line: u32) -> Stepped
-        ensures { result ≡ passed_by self counts stage line }
+    pub fn passed(self, counts: Counts, stage: u32) -> State
+        ensures { result ≡ passed_by self counts stage }
     {
-        Stepped {
-            number: 0,
-            line,
-            state: State {
-                counts,
-                stage,
-                model: self.model,
-                model_line: self.model_line,
-                claim: self.claim,
-            },
+        State {
+            counts,
+            stage,
+            ..self
         }
     }
 
     // The state after an M line of these atoms that passed.
-    pub fn modelled(self, model: u64, line: u32) -> Stepped
-        ensures { result ≡ modelled_by self model line }
+    pub fn modelled(self, atoms: u64, line: u32) -> State
+        ensures { result ≡ modelled_by self atoms line }
     {
-        let counts = self.counts;
-        Stepped {
-            number: 0,
-            line,
-            state: State {
-                counts,
-                stage: MODELLED,
-                model,
-                model_line: line,
-                claim: self.claim,
-            },
+        State {
+            stage: MODELLED,
+            model: Some(ModelLine { atoms, line }),
+            ..self
         }
     }
 
@@ -99,27 +81,20 @@ impl State {
     pub fn model_report(self, line: u32) -> u32
         ensures { result ≡ model_report self line }
     {
-        if self.stage == MODELLED {
-            return self.model_line;
+        match self.model {
+            Some(model) => model.line,
+            None => line,
         }
-        line
     }
 
     // The state after a claim that passed.
-    pub fn claimed(self, line: u32) -> Stepped
+    pub fn claimed(self, line: u32) -> State
         ensures { result ≡ claimed_by self line }
     {
-        let counts = self.counts;
-        Stepped {
-            number: 0,
-            line,
-            state: State {
-                counts,
-                stage: CLAIMED,
-                model: self.model,
-                model_line: self.model_line,
-                claim: line,
-            },
+        State {
+            stage: CLAIMED,
+            claim: Some(line),
+            ..self
         }
     }
 }
