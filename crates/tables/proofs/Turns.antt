@@ -13,7 +13,7 @@ use lib.ListN.{length, take, drop, length-drop}
 use lib.Seq.{drop-drop}
 use Rattle.format.specs.Text.{Bytes, any}
 use Rattle.tables.specs.Names.{first_records, spelled_by, place_from, place_of, found_as, name_refusal, NameFound}
-use Rattle.tables.specs.declared.names.Found.{Found}
+use Rattle.std.specs.Prelude.{Option as Found}
 
 module _ (test : List ℕ → Bool) (width : ℕ) where
   -- the place of the first of so many records that passes, counted from k
@@ -100,5 +100,5 @@ module _ (text name : Bytes) where
       by_test true e = refl
       by_test false e = e
 
-  pub name_looked : (records : List (List ℕ)) {r : Found} → found_as (place_of (spelled_by text name) records) ≡ r → NameFound text name records r
+  pub name_looked : (records : List (List ℕ)) {r : Found ℕ} → found_as (place_of (spelled_by text name) records) ≡ r → NameFound text name records r
   name_looked records e = record { answer = sym e; refusal = ap name_refusal (sym e) ∙ placed 0 records }

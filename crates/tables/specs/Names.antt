@@ -1,10 +1,11 @@
 -- What is looked for among the first records of the names table. A table is any list of numbers.
 use Rattle.std.specs.Prelude.{ℕ, zero, suc, ◌+◌, ◌≤◌, Bool, cond, ◌&&◌, List, [], ◌∷◌, ◌≡◌, leb, length, get_or, take, drop}
+use Rattle.std.specs.Prelude.{None, Some}
+use Rattle.std.specs.Prelude.{Option as Found}
 use Rattle.std.proofs.Math.Option.{Option, none, some}
 use Rattle.format.specs.Text.{Bytes, any, same_list}
 use Rattle.format.specs.File.{Name}
 use Rattle.format.specs.Tests.{◌when◌, first}
-use Rattle.tables.specs.declared.names.Found.{Found}
 
 -- the first so many records of this width, as far as they lie inside the table
 unfoldable pub first_records : ℕ → ℕ → List ℕ → List (List ℕ)
@@ -27,17 +28,17 @@ place_from k test (x ∷ xs) = cond (test x) (some k) (place_from (suc k) test x
 abbrev pub place_of : {A : Type 0} → (A → Bool) → List A → Option ℕ
 place_of test xs = place_from 0 test xs
 
-abbrev pub found_as : Option ℕ → Found
-found_as none = Found.Nowhere
-found_as (some i) = Found.At i
+abbrev pub found_as : Option ℕ → Found ℕ
+found_as none = None
+found_as (some i) = Some i
 
 -- 01's number of each answer, where the name is a new atom's: it is used before
-abbrev pub name_refusal : Found → Option ℕ
-name_refusal (Found.At i) = some 6
-name_refusal Found.Nowhere = none
+abbrev pub name_refusal : Found ℕ → Option ℕ
+name_refusal (Some i) = some 6
+name_refusal None = none
 
 -- the first of some records that spells the name, and the number that the answer stands for
-pub record NameFound (text name : Bytes) (records : List (List ℕ)) (r : Found) : Type 0 where
+pub record NameFound (text name : Bytes) (records : List (List ℕ)) (r : Found ℕ) : Type 0 where
   pub answer : r ≡ found_as (place_of (spelled_by text name) records)
   pub refusal : name_refusal r ≡ first ((6 when any (spelled_by text name) records) ∷ [])
 

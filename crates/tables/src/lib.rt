@@ -38,9 +38,5 @@ pub fn fetch<'a>(
 pub fn clear(table: &mut [u16])
     ensures { table.new ≡ replicate (length table.old) 0 }
 {
-    let mut i = 0;
-    while i < table.len() {
-        table[i] = 0;
-        i += 1;
-    }
+    table.fill(0);
 }

@@ -50,7 +50,7 @@ pub struct RowRecord {
 pub fn wide(x: u16) -> usize
     ensures { result ≡ x }
 {
-    x as usize
+    usize::from(x)
 }
 
 // A number as a table holds it, in 16 bits; what is stored was bounded before.
@@ -71,23 +71,15 @@ pub fn narrow_place(x: usize) -> u16
 pub(crate) fn part(table: &[u16], start: u16, len: u16) -> &[u16]
     ensures { result.now ≡ part_of table.now start len }
 {
-    let from = wide(start);
-    let to = from + wide(len);
-    if to > table.len() {
-        return &table[0..0];
-    }
-    &table[from..to]
+    let from = usize::from(start);
+    table.get(from..from + usize::from(len)).unwrap_or(&[])
 }
 
 // The first numbers of a table, as far as it has so many.
 pub fn front(table: &[u16], count: usize) -> &[u16]
     ensures { result.now ≡ take count table.now }
 {
-    if count > table.len() {
-        let all = table.len();
-        return &table[..all];
-    }
-    &table[..count]
+    &table[..count.min(table.len())]
 }
 
 // Record i of the formulas table.
@@ -191,9 +183,5 @@ pub fn put_side(pool: &mut [u16], at: usize, side: &[u16])
     if side.len() > pool.len() - at {
         return;
     }
-    let mut i = 0;
-    while i < side.len() {
-        pool[at + i] = side[i];
-        i += 1;
-    }
+    pool[at..at + side.len()].copy_from_slice(side);
 }

@@ -1,5 +1,4 @@
 -- `tables::names::find_name` meets its contract. The invariant of its loop: the names passed are others. Assumes nothing.
-use Prim.Native.Nat.{◌-◌}
 use Rattle.format.specs.Tables.{name_width}
 use Rattle.tables.specs.Names.{spelled_by}
 use Rattle.tables.proofs.Turns.{Passed}
@@ -7,6 +6,3 @@ use Rattle.tables.proofs.names.find_name.Given as goal
 
 abbrev pub invariant-loop-i : goal.invariant-loop-i
 invariant-loop-i l = Passed (spelled_by l.text l.name) name_width l.count l.names l.i
-
-abbrev pub decreases-loop-i : goal.decreases-loop-i
-decreases-loop-i l = l.end - l.i
