@@ -17,8 +17,7 @@ use Rattle.tables.specs.Records.{record_numbers}
 use Rattle.tables.specs.Holding.{HoldsNodes}
 use Rattle.tables.specs.declared.records.NodeRecord.{NodeRecord}
 use Rattle.known.specs.Index.{Indexed, NodeFound}
-use Rattle.known.specs.Entering.{entry_refusal, with_new, Enters, FormulaEntered, full, held, new}
-use Rattle.known.specs.declared.Entry.{Entry}
+use Rattle.known.specs.Entering.{Entry, entry_refusal, with_new, Enters, FormulaEntered, full, held, new}
 use Rattle.known.proofs.Indexing.{record_there}
 
 any_at : {A : Type 0} (test : A → Bool) (xs : List A) (i : ℕ) (d : A) → i < length xs → test (get_or xs i d) ≡ true → any test xs ≡ true

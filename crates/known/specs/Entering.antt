@@ -1,5 +1,5 @@
 -- What entering a formula comes to, in any tables.
-use Rattle.std.specs.Prelude.{ℕ, ◌*◌, ◌≤◌, ◌<◌, List, [], ◌∷◌, ◌≡◌, leb, set}
+use Rattle.std.specs.Prelude.{ℕ, ◌*◌, ◌≤◌, ◌<◌, List, [], ◌∷◌, ◌≡◌, leb, set, Result, Ok, Err}
 use Rattle.std.proofs.Math.Option.{Option, none, some}
 use Rattle.format.specs.Text.{any, same_list}
 use Rattle.format.specs.File.{Node}
@@ -10,20 +10,24 @@ use Rattle.tables.specs.Records.{written, record_numbers}
 use Rattle.tables.specs.Holding.{HoldsNodes}
 use Rattle.known.specs.Index.{entered, Indexed, NodeFound}
 use Rattle.known.specs.Known.{occurs_by}
-use Rattle.known.specs.declared.Entry.{Entry}
+use Rattle.known.specs.declared.NoEntry.{NoEntry}
 use Rattle.tables.specs.declared.records.NodeRecord.{NodeRecord}
+
+-- what entering a formula answers: the number of the new one, or why there is none
+abbrev pub Entry : Type 0
+Entry = Result ℕ NoEntry
 
 -- 01's number of each answer: an equal formula exists, or there is no room for it
 abbrev pub entry_refusal : Entry → Option ℕ
-entry_refusal (Entry.Held i) = some 8
-entry_refusal (Entry.New i) = none
-entry_refusal Entry.Full = some 5
+entry_refusal (Err (NoEntry.Held i)) = some 8
+entry_refusal (Ok i) = none
+entry_refusal (Err NoEntry.Full) = some 5
 
 -- the formulas table after it: a new formula stands after the others
 abbrev pub with_new : List ℕ → ℕ → NodeRecord → Entry → List ℕ
-with_new formulas count key (Entry.Held i) = formulas
-with_new formulas count key (Entry.New i) = written formulas (node_width * count) (record_numbers key)
-with_new formulas count key Entry.Full = formulas
+with_new formulas count key (Err (NoEntry.Held i)) = formulas
+with_new formulas count key (Ok i) = written formulas (node_width * count) (record_numbers key)
+with_new formulas count key (Err NoEntry.Full) = formulas
 
 -- tables with one formula more: its record after the others, its atoms, and its place in the index
 pub record Appended (formulas notes : List ℕ) (count : ℕ) (key : NodeRecord) (formulas' notes' : List ℕ) : Type 0 where
@@ -34,13 +38,13 @@ pub record Appended (formulas notes : List ℕ) (count : ℕ) (key : NodeRecord)
 
 -- A formula that is held already, or for which there is no room, changes nothing; a new one is appended.
 pub data Enters (formulas notes : List ℕ) (count : ℕ) (key : NodeRecord) (formulas' notes' : List ℕ) : Entry → Type 0 where
-  full : most_formulas ≤ count → formulas' ≡ formulas → notes' ≡ notes → Enters formulas notes count key formulas' notes' Entry.Full
+  full : most_formulas ≤ count → formulas' ≡ formulas → notes' ≡ notes → Enters formulas notes count key formulas' notes' (Err NoEntry.Full)
   held :
       (i : ℕ) → count < most_formulas → NodeFound formulas notes (record_numbers key) (some i) → formulas' ≡ formulas → notes' ≡ notes
-      → Enters formulas notes count key formulas' notes' (Entry.Held i)
+      → Enters formulas notes count key formulas' notes' (Err (NoEntry.Held i))
   new :
       count < most_formulas → NodeFound formulas notes (record_numbers key) none → Appended formulas notes count key formulas' notes'
-      → Enters formulas notes count key formulas' notes' (Entry.New count)
+      → Enters formulas notes count key formulas' notes' (Ok count)
 
 -- The tables after it; and where the table holds formulas with their index, the number that the answer stands for: 5 where there
 -- is no room, else 8 where an equal formula is held.

@@ -1,4 +1,6 @@
 -- An index of the formulas by their records, in notes beside the table.
+use Rattle.std.specs.Prelude.{Some, None}
+use Rattle.std.specs.Prelude.{Option as Located}
 use Rattle.std.specs.Prelude.{ℕ, suc, ◌+◌, ◌*◌, ◌%◌, ◌≤◌, ◌<◌, false, cond, List, ◌≡◌, leb, length, get_or, set}
 use Rattle.std.proofs.Math.Option.{Option, none, some}
 use Rattle.format.specs.Text.{any, same_list}
@@ -6,7 +8,6 @@ use Rattle.format.specs.File.{Node}
 use Rattle.format.specs.Tables.{node_record}
 use Rattle.tables.specs.Records.{node_at, record_from, record_numbers}
 use Rattle.tables.specs.Holding.{HoldsNodes}
-use Rattle.known.specs.declared.index.Located.{Located}
 
 -- the notes of the slots and of the formulas begin here
 abbrev pub slot_notes : ℕ
@@ -41,9 +42,9 @@ entered notes i numbers =
     cond (leb 1024 i) notes (set (set notes (formula_notes + i) (get_or notes (slot_notes + slot_of numbers) 0)) (slot_notes + slot_of numbers) (i + 1))
 
 -- the place that an answer gives
-abbrev pub place_in : Located → Option ℕ
-place_in (Located.At i) = some i
-place_in Located.Nowhere = none
+abbrev pub place_in : Located ℕ → Option ℕ
+place_in (Some i) = some i
+place_in None = none
 
 -- What is found by the index, in any tables: a formula that has the record. Where the table holds formulas with their index, it
 -- is one of them, and nothing is found only where none has the record; elsewhere it is free whether one is found.

@@ -5,13 +5,13 @@ ghost use Rattle.known.specs.Known.{occurs_by};
 
 use crate::index::note;
 use atomset::{single, union};
-use tables::records::{AND, ATOM, IMP, NOT, NodeRecord, wide};
+use tables::records::{AND, ATOM, IMP, NOT, NodeRecord};
 
 // The atoms of an earlier formula, none where there is no such formula.
 fn note_at(notes: &[u64], i: u16) -> u64
     ensures { result ≡ get_or notes.now i 0 }
 {
-    note(notes, wide(i))
+    note(notes, usize::from(i))
 }
 
 // The atoms of the formula with this record.
@@ -20,7 +20,7 @@ pub(crate) fn record_atoms(notes: &[u64], key: NodeRecord) -> u64
 {
     let operator = key.word;
     if operator == ATOM {
-        return single(wide(key.first));
+        return single(usize::from(key.first));
     }
     if operator == NOT {
         return note_at(notes, key.first);

@@ -2,18 +2,10 @@
 // note of a slot is one past the last formula of that slot, and the note of a formula is one past the last formula before it
 // of its slot; 0 where there is none. Equal formulas have one slot.
 ghost use Rattle.std.specs.Prelude.{◌≡◌, ◌+◌, ◌≤◌, ◌<◌, get_or, set};
-ghost use Rattle.format.specs.Text.{same_list};
-ghost use Rattle.tables.specs.Records.{node_at, record_from, record_numbers};
+ghost use Rattle.tables.specs.Records.{record_numbers};
 ghost use Rattle.known.specs.Index.{formula_notes, slot_of, entered, place_in, NodeFound};
 
-use tables::records::{NodeRecord, node, wide};
-
-// Where a formula is in its table.
-#[derive(Clone, Copy)]
-pub(crate) enum Located {
-    At(usize),
-    Nowhere,
-}
+use tables::records::{NodeRecord, node};
 
 // The notes of the slots and of the formulas begin here, 1,024 of each.
 const SLOTS: usize = 1024;
@@ -24,17 +16,14 @@ const FORMULAS: usize = 2048;
 fn slot(key: NodeRecord) -> usize
     ensures { result ≡ slot_of (record_numbers key) }
 {
-    (wide(key.word) + 31 * wide(key.first) + 173 * wide(key.second)) % 1024
+    (usize::from(key.word) + 31 * usize::from(key.first) + 173 * usize::from(key.second)) % 1024
 }
 
 // A note, 0 outside of the table.
 pub fn note(notes: &[u64], at: usize) -> u64
     ensures { result ≡ get_or notes.now at 0 }
 {
-    if at < notes.len() {
-        return notes[at];
-    }
-    0
+    notes.get(at).copied().unwrap_or(0)
 }
 
 // Stores a note where the table has room for it.
@@ -44,20 +33,6 @@ pub fn put_note(notes: &mut [u64], at: usize, note: u64)
     if at < notes.len() {
         notes[at] = note;
     }
-}
-
-// Whether formula i has this key.
-fn has_record(formulas: &[u16], i: usize, key: NodeRecord) -> bool
-    ensures { result ≡ same_list (record_numbers (record_from (node_at formulas.now i))) (record_numbers key) }
-{
-    let found = node(formulas, i);
-    if found.word != key.word {
-        return false;
-    }
-    if found.first != key.first {
-        return false;
-    }
-    found.second == key.second
 }
 
 // The note of formula i, 0 where it is none of an index.
@@ -75,19 +50,19 @@ fn past_last(notes: &[u64], i: u64) -> u64
 }
 
 // The formula that has this record, by the index.
-pub(crate) fn find_node(formulas: &[u16], notes: &[u64], key: NodeRecord) -> Located
+pub(crate) fn find_node(formulas: &[u16], notes: &[u64], key: NodeRecord) -> Option<usize>
     ensures { NodeFound formulas.now notes.now (record_numbers key) (place_in result) }
 {
     let mut after = note(notes, SLOTS + slot(key));
     while 0 < after {
         let i = after - 1;
         let at = i as usize;
-        if has_record(formulas, at, key) {
-            return Located::At(at);
+        if node(formulas, at) == key {
+            return Some(at);
         }
         after = past_last(notes, i);
     }
-    Located::Nowhere
+    None
 }
 
 // Enters formula i into the index. Outside of it nothing changes.

@@ -7,36 +7,37 @@ pub mod index;
 ghost use Rattle.known.specs.Entering.{with_new, FormulaEntered};
 
 use crate::atoms::record_atoms;
-use crate::index::{Located, enter_node, find_node, put_note};
+use crate::index::{enter_node, find_node, put_note};
 use counts::limits::MOST_FORMULAS;
 use tables::records::{NodeRecord, put_node};
 
-// An equal formula is held under this number, the formula is new under this number, or there is no room for it.
-#[derive(Clone, Copy)]
-pub enum Entry {
+// Why a formula is not entered: an equal one is held under this number, or there is no room for it.
+#[derive(Clone, Copy, PartialEq, Eq)]
+pub enum NoEntry {
     Held(usize),
-    New(usize),
     Full,
 }
 
-// Notes what is known of a formula that comes after `count` others; it is for the caller to see that it stands in the table.
-pub fn note_formula(formulas: &[u16], notes: &mut [u64], count: usize, key: NodeRecord) -> Entry
+// Notes what is known of a formula that comes after `count` others, which gets their count as its number; it is for the caller to see
+// that it stands in the table.
+pub fn note_formula(
+    formulas: &[u16],
+    notes: &mut [u64],
+    count: usize,
+    key: NodeRecord,
+) -> Result<usize, NoEntry>
     ensures { FormulaEntered formulas.now notes.old count key
         (with_new formulas.now count key result) notes.new result }
 {
     if MOST_FORMULAS <= count {
-        return Entry::Full;
+        return Err(NoEntry::Full);
     }
-    let found = find_node(formulas, notes, key);
-    match found {
-        Located::At(i) => {
-            return Entry::Held(i);
-        }
-        Located::Nowhere => {}
+    if let Some(i) = find_node(formulas, notes, key) {
+        return Err(NoEntry::Held(i));
     }
     put_note(notes, count, record_atoms(notes, key));
     enter_node(notes, count, key);
-    Entry::New(count)
+    Ok(count)
 }
 
 // Enters a formula into tables that hold `count` of them.
@@ -45,16 +46,10 @@ pub fn enter_formula(
     notes: &mut [u64],
     count: usize,
     key: NodeRecord,
-) -> Entry
+) -> Result<usize, NoEntry>
     ensures { FormulaEntered formulas.old notes.old count key formulas.new notes.new result }
 {
-    let entry = note_formula(formulas, notes, count, key);
-    match entry {
-        Entry::New(_) => {
-            put_node(formulas, count, key);
-        }
-        Entry::Held(_) => {}
-        Entry::Full => {}
-    }
-    entry
+    let new = note_formula(formulas, notes, count, key)?;
+    put_node(formulas, count, key);
+    Ok(new)
 }

@@ -26,7 +26,7 @@ pub const OR: u16 = 4;
 pub const IMP: u16 = 5;
 
 // The record of a formula: its word and its operands.
-#[derive(Clone, Copy)]
+#[derive(Clone, Copy, PartialEq, Eq)]
 pub struct NodeRecord {
     pub word: u16,
     pub first: u16,

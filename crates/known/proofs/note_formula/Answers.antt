@@ -11,13 +11,13 @@ use Rattle.known.proofs.note_formula.Goals as goal
 pub returns-then-count-ge-MOST_FORMULAS : goal.returns-then-count-ge-MOST_FORMULAS
 returns-then-count-ge-MOST_FORMULAS c = formula_entered (full c.if-count-ge-MOST_FORMULAS.true refl refl)
 
-pub returns-in-At : goal.returns-in-At
-returns-in-At c = formula_entered (held _ c.if-count-ge-MOST_FORMULAS.false c.in-At.ensures refl refl)
+pub returns-in-Some : goal.returns-in-Some
+returns-in-Some c = formula_entered (held _ c.if-count-ge-MOST_FORMULAS.false c.in-Some.ensures refl refl)
 
 pub returns : goal.returns
 returns c =
     let args = c.args in
-    formula_entered (new c.if-count-ge-MOST_FORMULAS.false c.in-Nowhere.ensures (
+    formula_entered (new c.if-count-ge-MOST_FORMULAS.false c.in_default.ensures (
     record {
       atoms = c.record_atoms.result;
       atoms_are = c.record_atoms.ensures;

@@ -5,4 +5,4 @@ use lib.ListN.{get_or}
 use Rattle.known.proofs.atoms.note_at.Goals as goal
 
 pub returns : goal.returns
-returns c = c.note.ensures ∙ ap (λ (k : ℕ). get_or c.args.notes.now k 0) c.wide.ensures
+returns c = c.note.ensures ∙ ap (λ (k : ℕ). get_or c.args.notes.now k 0) c.from.ensures

@@ -39,7 +39,7 @@ pub returns-then-operator-eq-ATOM : goal.returns-then-operator-eq-ATOM
 returns-then-operator-eq-ATOM c p =
     let args = c.args in
     c.single.ensures p
-    ∙ ap (λ (k : ℕ). eqb p k && ltb k 64) c.wide.ensures
+    ∙ ap (λ (k : ℕ). eqb p k && ltb k 64) c.from.ensures
     ∙ sym (of_atom args.notes.now args.key p c.if-operator-eq-ATOM.true)
 
 pub returns-then-operator-eq-NOT : goal.returns-then-operator-eq-NOT
