@@ -1,6 +1,6 @@
 -- What the lent tables and the state hold between two lines: the file that the accepted beginning comes to.
 use Rattle.std.specs.Prelude
-use Rattle.std.specs.Prelude.{ℕ, ◌≤◌, ◌*◌, ◌≡◌, Bool, not, ◌&&◌, ◌||◌, List, [], eqb, ltb, length, Some, None, Result, Err, IsOkAnd, IsErrAnd}
+use Rattle.std.specs.Prelude.{ℕ, ◌≤◌, ◌*◌, ◌≡◌, Bool, cond, not, ◌&&◌, ◌||◌, List, [], eqb, ltb, length, Some, None, Result, Err, IsOkAnd, IsErrAnd}
 use Rattle.std.specs.Result.{ForErr}
 use Rattle.std.proofs.Math.Option.{Option, none, some}
 use Rattle.equilibrium.specs.Meaning.{◌∈◌}
@@ -44,13 +44,14 @@ modelled_by s atoms line =
 abbrev pub claimed_by : State → ℕ → State
 claimed_by s line = record { counts = s.counts; stage = rank claimed; model = s.model; claim = Some line }
 
--- the line that a refusal of the model belongs to: the M line, or this one if there is none
+-- the line of the M line, or this one if there is none
 abbrev pub report_of : Prelude.Option ModelLine → ℕ → ℕ
 report_of None line = line
 report_of (Some m) line = m.line
 
+-- the line that a refusal of the model belongs to: the M line, if that was the last one, or this one
 abbrev pub model_report : State → ℕ → ℕ
-model_report s line = report_of s.model line
+model_report s line = cond (eqb s.stage (rank modelled)) (report_of s.model line) line
 
 -- a line of the stage `coming` may not follow, by the numbers of the stages
 unfoldable pub out_of_turn : ℕ → ℕ → Bool

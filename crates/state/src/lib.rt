@@ -77,13 +77,13 @@ impl State {
         }
     }
 
-    // The line that a refusal of the model belongs to: the M line, or the claim's own if there is none.
+    // The line that a refusal of the model belongs to: the M line, if it was the last one, or the claim's own.
     pub fn model_report(self, line: u32) -> u32
         ensures { result ≡ model_report self line }
     {
         match self.model {
-            Some(model) => model.line,
-            None => line,
+            Some(model) if self.stage == MODELLED => model.line,
+            _ => line,
         }
     }
 
