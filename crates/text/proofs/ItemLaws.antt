@@ -11,6 +11,8 @@ use lib.Dec.{ltb}
 use lib.ListN.{length, get_or, take, drop, length-take, length-drop}
 use lib.Seq.{drop-drop, get_or-drop, get_or-take}
 use borrow.Author.Tests.{ltb-true, ltb-false, lt-ltb, le-ltb}
+use Rattle.std.specs.Prelude.{Option as Answer, None, Some}
+use Rattle.std.proofs.lemmas.Option.{same_Some}
 use Rattle.format.specs.Text.{Bytes, comma, hyphen, parts_at, only_if, Item, is_ordered, passing, item_from, item_of, meant_by, number_of, ◌<$>◌, ◌<*>◌}
 use Rattle.format.proofs.Sides.{number_parts, number_item}
 use Rattle.parts.specs.Parts.{before, next_at, between}
@@ -18,8 +20,6 @@ use Rattle.parts.proofs.PartLaws.{next_inside, next_found, next_least, next_boun
 use Rattle.text.specs.Numbers.{number_as, digits_ahead, number_at}
 use Rattle.text.specs.Items.{item_by, span_as, part_at, item_at, run_at}
 use Rattle.text.specs.Lists.{spanned}
-use Rattle.text.specs.declared.numbers.Entry.{Entry}
-use Rattle.text.specs.declared.numbers.Number.{Number}
 use Rattle.text.specs.declared.items.Span.{Span}
 use Rattle.text.proofs.ListLaws.{spanned_one}
 use Rattle.text.proofs.NumberLaws.{digits_to, was_number, was_no_number, part_bad, part_within, part_cut, part_full}
@@ -60,42 +60,46 @@ item_parted first rest n e = by_rest (number_of rest) refl
     by_rest (some last) k =
         ap (λ parts. item_from (first ∷ parts)) (number_parts rest last k) ∙ with_first rest ∙ ap (λ o. (λ l. Item.run n l) <$> o) k
 
+abbrev pub spans : ℕ → ℕ → ℕ → Answer Span
+spans first last end = Some (record { first = first; last = last; end = end })
+
+span_parts : (a b k first last end : ℕ) → spans a b k ≡ spans first last end → (a ≡ first) × (b ≡ last) × (k ≡ end)
+span_parts a b k first last end e = let h = same_Some _ _ e in (ap (λ s. s.first) h, ap (λ s. s.last) h, ap (λ s. s.end) h)
+
 -- what an item's span tells of the item
-pub was_span : (o : Option Item) (k first last end : ℕ) → span_as o k ≡ Span.Of first last end
+pub was_span : (o : Option Item) (k first last end : ℕ) → span_as o k ≡ spans first last end
     → (item : Item) × (o ≡ some item) × (meant_by item ≡ spanned first last) × (k ≡ end)
 was_span none k first last end e = let z : ◌≡◌ {A = ℕ} 0 1 = cc in absurd (omega arith)
 was_span (some (Item.one n)) k first last end e =
-    let one : n ≡ first = cc in
-    let other : n ≡ last = cc in
-    (Item.one n, refl, sym (spanned_one n) ∙ ap₂ spanned one other, cc)
+    let h = span_parts n n k first last end e in
+    (Item.one n, refl, sym (spanned_one n) ∙ ap₂ spanned h.0 h.1, h.2)
 was_span (some (Item.run a b)) k first last end e =
-    let one : a ≡ first = cc in
-    let other : b ≡ last = cc in
-    (Item.run a b, refl, ap₂ spanned one other, cc)
+    let h = span_parts a b k first last end e in
+    (Item.run a b, refl, ap₂ spanned h.0 h.1, h.2)
 
-pub was_no_span : (o : Option Item) (k : ℕ) → span_as o k ≡ Span.Bad → o ≡ none
+pub was_no_span : (o : Option Item) (k : ℕ) → span_as o k ≡ None → o ≡ none
 was_no_span none k e = refl
 was_no_span (some (Item.one n)) k e = let z : ◌≡◌ {A = ℕ} 0 1 = cc in absurd (omega arith)
 was_no_span (some (Item.run a b)) k e = let z : ◌≡◌ {A = ℕ} 0 1 = cc in absurd (omega arith)
 
 -- a run is read only if it is ordered
-pub span_ordered : (runs : Bool) (bs : Bytes) (k first last end : ℕ) → span_as (item_by runs bs) k ≡ Span.Of first last end → first ≤ last
+pub span_ordered : (runs : Bool) (bs : Bytes) (k first last end : ℕ) → span_as (item_by runs bs) k ≡ spans first last end → first ≤ last
 unfolding item_of
 span_ordered true bs k first last end e = by_item (item_from (parts_at hyphen bs)) e
   where
-    by_item : (o : Option Item) → span_as (passing is_ordered o) k ≡ Span.Of first last end → first ≤ last
+    by_item : (o : Option Item) → span_as (passing is_ordered o) k ≡ spans first last end → first ≤ last
     by_item none h = let z : ◌≡◌ {A = ℕ} 0 1 = cc in absurd (omega arith)
-    by_item (some (Item.one n)) h = let one : n ≡ first = cc in let other : n ≡ last = cc in omega arith
+    by_item (some (Item.one n)) h = omega (arith, span_parts n n k first last end h)
     by_item (some (Item.run a b)) h = by_test (ltb a b) refl h
       where
-        by_test : (t : Bool) → ltb a b ≡ t → span_as (only_if t (some (Item.run a b))) k ≡ Span.Of first last end → first ≤ last
-        by_test true l g = let one : a ≡ first = cc in let other : b ≡ last = cc in omega (arith, ltb-true a b l)
+        by_test : (t : Bool) → ltb a b ≡ t → span_as (only_if t (some (Item.run a b))) k ≡ spans first last end → first ≤ last
+        by_test true l g = omega (arith, span_parts a b k first last end g, ltb-true a b l)
         by_test false l g = let z : ◌≡◌ {A = ℕ} 0 1 = cc in absurd (omega arith)
 span_ordered false bs k first last end e = by_number (number_of bs) e
   where
-    by_number : (o : Option ℕ) → span_as ((λ n. Item.one n) <$> o) k ≡ Span.Of first last end → first ≤ last
+    by_number : (o : Option ℕ) → span_as ((λ n. Item.one n) <$> o) k ≡ spans first last end → first ≤ last
     by_number none h = let z : ◌≡◌ {A = ℕ} 0 1 = cc in absurd (omega arith)
-    by_number (some n) h = let one : n ≡ first = cc in let other : n ≡ last = cc in omega arith
+    by_number (some n) h = omega (arith, span_parts n n k first last end h)
 
 -- the later bytes of the first ones
 drop-take : (k n : ℕ) (bs : Bytes) → drop k (take n bs) ≡ take (n - k) (drop k bs)
@@ -116,23 +120,23 @@ module _ (first : ℕ) (field : Bytes) (start : ℕ) where
   unfolding run_at
   run_is o e = ap (λ o. span_as (passing is_ordered ((λ last. Item.run first last) <$> o)) (next_at comma field start)) (sym e)
 
-  module _ {end : ℕ} (to : end ≡ next_at comma field start) {r : Number} (answer : r ≡ number_as (number_of (between field start end))) where
-    number_is : (n : Number) → r ≡ n → number_as (number_of (part_at field start)) ≡ n
+  module _ {end : ℕ} (to : end ≡ next_at comma field start) {r : Answer ℕ} (answer : r ≡ number_as (number_of (between field start end))) where
+    number_is : (n : Answer ℕ) → r ≡ n → number_as (number_of (part_at field start)) ≡ n
     number_is n h = ap (λ k. number_as (number_of (between field start k))) (sym to) ∙ sym answer ∙ h
 
-    pub run_bad : r ≡ Number.Bad → Span.Bad ≡ run_at first field start
-    run_bad h = run_is none (was_no_number (number_of (part_at field start)) (number_is Number.Bad h))
+    pub run_bad : r ≡ None → None ≡ run_at first field start
+    run_bad h = run_is none (was_no_number (number_of (part_at field start)) (number_is None h))
 
-    module _ {last : ℕ} (h : r ≡ Number.Value last) where
+    module _ {last : ℕ} (h : r ≡ Some last) where
       run_tested : (t : Bool) → ltb first last ≡ t → span_as (only_if t (some (Item.run first last))) end ≡ run_at first field start
       run_tested t k =
-          let value = was_number (number_of (part_at field start)) last (number_is (Number.Value last) h) in
+          let value = was_number (number_of (part_at field start)) last (number_is (Some last) h) in
           ap₂ (λ t k. span_as (only_if t (some (Item.run first last))) k) (sym k) to ∙ run_is (some last) value
 
-      pub run_rises : first < last → Span.Of first last end ≡ run_at first field start
+      pub run_rises : first < last → spans first last end ≡ run_at first field start
       run_rises l = run_tested true (lt-ltb first last l)
 
-      pub run_falls : last ≤ first → Span.Bad ≡ run_at first field start
+      pub run_falls : last ≤ first → None ≡ run_at first field start
       run_falls l = run_tested false (le-ltb first last l)
 
 -- ---- the item at a place
@@ -187,10 +191,10 @@ module _ (field : List ℕ) (at : ℕ) (inside : at ≤ length field) where
   one_item true n e = number_item part n e
   one_item false n e = ap (λ o. (λ n. Item.one n) <$> o) e
 
-  pub item_bad : (runs : Bool) → number_at field at ≡ Entry.Bad → Span.Bad ≡ item_at runs field at
+  pub item_bad : (runs : Bool) → number_at field at ≡ None → None ≡ item_at runs field at
   item_bad runs e = item_is runs none (no_item runs (part_bad field at part part_digits e) (part_bad field at head head_digits e))
 
-  module _ (n end : ℕ) (e : number_at field at ≡ Entry.Value n end) where
+  module _ (n end : ℕ) (e : number_at field at ≡ Some (n, end)) where
     up_to : (at ≤ end) × (end ≤ next_at comma field at)
     up_to = omega (arith, part_within field at part part_digits n end e, part_end)
 
@@ -202,17 +206,17 @@ module _ (field : List ℕ) (at : ℕ) (inside : at ≤ length field) where
       number_there : number_of part ≡ some n
       number_there = part_full field at part part_digits n end e (omega (arith, part_end))
 
-      item_full : (runs : Bool) → Span.Of n n end ≡ item_at runs field at
-      item_full runs = ap (Span.Of n n) there ∙ item_is runs (some (Item.one n)) (one_item runs n number_there)
+      item_full : (runs : Bool) → spans n n end ≡ item_at runs field at
+      item_full runs = ap (λ k. spans n n k) there ∙ item_is runs (some (Item.one n)) (one_item runs n number_there)
 
-    pub item_last : (runs : Bool) → end ≡ length field → Span.Of n n end ≡ item_at runs field at
+    pub item_last : (runs : Bool) → end ≡ length field → spans n n end ≡ item_at runs field at
     item_last runs h = item_full (omega (arith, next_bounds comma field at inside)) runs
 
     module _ (not_last : end ≡ length field → ⊥) where
       pub number_inside : end < length field
       number_inside = lt_of_le_of_ne (omega (arith, up_to, next_bounds comma field at inside)) not_last
 
-      pub item_comma : (runs : Bool) → get_or field end 0 ≡ comma → Span.Of n n end ≡ item_at runs field at
+      pub item_comma : (runs : Bool) → get_or field end 0 ≡ comma → spans n n end ≡ item_at runs field at
       item_comma runs c = item_full (next_least comma field at end up_to.0 number_inside c) runs
 
       -- more stands there than the number
@@ -228,7 +232,7 @@ module _ (field : List ℕ) (at : ℕ) (inside : at ≤ length field) where
         byte_here : get_or part (end - at) 0 ≡ get_or field end 0
         byte_here = part_byte end up_to.0 past
 
-        pub item_stray : (runs : Bool) → (get_or field end 0 ≡ hyphen → ⊥) → Span.Bad ≡ item_at runs field at
+        pub item_stray : (runs : Bool) → (get_or field end 0 ≡ hyphen → ⊥) → None ≡ item_at runs field at
         item_stray runs no-hyphen = item_is runs none (no_item runs no_number_lem (part_cut field at head head_digits n end e further))
           where
             not_there : end ≡ at + length head → ⊥
@@ -240,7 +244,7 @@ module _ (field : List ℕ) (at : ℕ) (inside : at ≤ length field) where
             further : end < at + length head
             further = lt_of_le_of_ne (part_within field at head head_digits n end e).1 not_there
 
-        pub item_no_run : (runs : Bool) → runs ≡ false → Span.Bad ≡ item_at runs field at
+        pub item_no_run : (runs : Bool) → runs ≡ false → None ≡ item_at runs field at
         item_no_run runs off =
             item_is false none (ap (λ o. (λ n. Item.one n) <$> o) no_number_lem) ∙ ap (λ t. item_at t field at) (sym off)
 

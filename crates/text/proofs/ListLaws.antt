@@ -4,7 +4,6 @@ use Prim.Native.Nat.{ℕ, zero, suc, ◌+◌, ◌-◌, ◌%◌, ◌≤◌, ◌<�
 use mathlib.Core.Path.{◌≡◌, refl, sym, ap, ap₂, ◌∙◌}
 use mathlib.Core.Bool.{Bool, true, false, ◌&&◌, and-true, and-false}
 use mathlib.Core.List.{List, [], ◌∷◌, ◌++◌, append_assoc, append-nil}
-use mathlib.Core.Option.{some}
 use native.Mathlib.Numerals.{lt_of_le_of_ne}
 use native.Mathlib.Omega.{arith}
 use lib.Dec.{ltb, leb}
@@ -12,7 +11,7 @@ use lib.ListN.{length, set, length-append, length-set}
 use lib.Seq.{set_out}
 use borrow.Author.Tests.{lt-ltb, le-ltb, ltb-true, ltb-false, leb-true, leb-false}
 use Rattle.format.specs.Text.{up_from, strictly_rising}
-use Rattle.text.specs.Lists.{most_counted, above, laid_over, laid_at, spanned, listed_as, HeldList}
+use Rattle.text.specs.Lists.{most_counted, above, laid_over, laid_at, spanned, listed_of, HeldList}
 use Rattle.text.specs.declared.lists.Listed.{Listed}
 
 -- ---- all numbers from one to another
@@ -76,16 +75,16 @@ not_rising_after (i ∷ j ∷ js) a ys h = by_test (ltb i j) refl (not_rising_af
 -- ---- what is known of a list
 
 abbrev listing : ℕ → ℕ → Bool → Listed
-listing count past rising = record { well = true; count = count; above = past; rising = rising }
+listing count past rising = record { count = count; above = past; rising = rising }
 
 same_listing : {c c' l l' : ℕ} {r r' : Bool} → c ≡ c' → l ≡ l' → r ≡ r' → listing c l r ≡ listing c' l' r'
 same_listing p q s = cc
 
-pub listed_count : (listed : Listed) (xs : List ℕ) → listed ≡ listed_as (some xs) → listed.count ≡ min (length xs) most_counted
+pub listed_count : (listed : Listed) (xs : List ℕ) → listed ≡ listed_of xs → listed.count ≡ min (length xs) most_counted
 listed_count listed xs e = ap (λ l. l.count) e
 
 module _ (first last : ℕ) (ordered : first ≤ last) (listed : Listed) (count : ℕ) (added : count ≡ min (listed.count + (last - first + 1)) most_counted) where
-  counted_up : (xs : List ℕ) → listed ≡ listed_as (some xs) → count ≡ min (length (xs ++ spanned first last)) most_counted
+  counted_up : (xs : List ℕ) → listed ≡ listed_of xs → count ≡ min (length (xs ++ spanned first last)) most_counted
   counted_up xs e =
       omega (arith, added, listed_count listed xs e, length-append xs (spanned first last), length_up first (last + 1 - first))
 
@@ -106,7 +105,7 @@ module _ (first last : ℕ) (ordered : first ≤ last) (listed : Listed) (count 
       by_test false e = not_rising_after xs first _ (leb-false (above xs) first e) ∙ sym (and-false (strictly_rising xs))
 
   pub entered_with : (past : ℕ) → past ≡ max listed.above (last + 1) → (rising : Bool) → rising ≡ listed.rising && leb listed.above first
-      → (xs : List ℕ) → listed ≡ listed_as (some xs) → listing count past rising ≡ listed_as (some (xs ++ spanned first last))
+      → (xs : List ℕ) → listed ≡ listed_of xs → listing count past rising ≡ listed_of (xs ++ spanned first last)
   entered_with past is_past rising rises xs e =
       same_listing (counted_up xs e) (is_past ∙ ap (λ l. max l.above (last + 1)) e ∙ sym (above_with xs))
       (rises ∙ ap (λ l. l.rising && leb l.above first) e ∙ sym (rising_with xs))
@@ -179,7 +178,7 @@ module _ (was : List ℕ) (at first last : ℕ) (out : List ℕ) (place n : ℕ)
         }
 
 pub run_more : (first last : ℕ) (xs was is is' : List ℕ) (listed r : Listed) → length is ≤ most_counted → HeldList xs was is listed
-    → is' ≡ laid_at is listed.count (spanned first last) → (listed ≡ listed_as (some xs) → r ≡ listed_as (some (xs ++ spanned first last)))
+    → is' ≡ laid_at is listed.count (spanned first last) → (listed ≡ listed_of xs → r ≡ listed_of (xs ++ spanned first last))
     → HeldList (xs ++ spanned first last) was is' r
 run_more first last xs was is is' listed r short h stored known =
     record {
@@ -200,8 +199,8 @@ run_more first last xs was is is' listed r short h stored known =
 
 -- a run of one number
 pub number_more : (first last : ℕ) → first ≡ last → (xs was is is' : List ℕ) (listed r : Listed) → length is ≤ most_counted → HeldList xs was is listed
-    → is' ≡ set is listed.count (first % 65536) → (listed ≡ listed_as (some xs) → r ≡ listed_as (some (xs ++ spanned first first)))
+    → is' ≡ set is listed.count (first % 65536) → (listed ≡ listed_of xs → r ≡ listed_of (xs ++ spanned first first))
     → HeldList (xs ++ spanned first last) was is' r
 number_more first last same xs was is is' listed r short h stored known =
     run_more first last xs was is is' listed r short h (stored ∙ laid_one is listed.count first last same)
-    (λ e. known e ∙ ap (λ n. listed_as (some (xs ++ spanned first n))) same)
+    (λ e. known e ∙ ap (λ n. listed_of (xs ++ spanned first n)) same)

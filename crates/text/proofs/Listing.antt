@@ -8,15 +8,15 @@ use mathlib.Core.Option.{Option, none, some}
 use native.Mathlib.Numerals.{lt_of_le_of_ne}
 use native.Mathlib.Omega.{arith}
 use lib.ListN.{length, drop}
+use Rattle.std.specs.Prelude.{None, Some}
 use Rattle.format.specs.Text.{Bytes, comma, parts_at, each, is, Item, meant_by, written_out, items_of, side_of, list_of, number_of, ◌<$>◌, ◌<*>◌}
-use Rattle.parts.specs.Refusals.{bad_if_none}
+use Rattle.parts.specs.Refusals.{bad_if_none, refusal_of}
 use Rattle.parts.specs.Parts.{next_at}
 use Rattle.parts.proofs.PartLaws.{next_bounds, next_part, last_part_lem, first_part}
 use Rattle.text.specs.Items.{item_by, part_at, item_at}
-use Rattle.text.specs.Lists.{most_counted, laid_over, spanned, listed_as, ListedInto, HeldList, list_refusal, list_by, leads, items_ahead, entries_of}
-use Rattle.text.specs.declared.items.Span.{Span}
+use Rattle.text.specs.Lists.{most_counted, laid_over, spanned, listed_of, listed_as, ListedInto, HeldList, list_by, leads, items_ahead, entries_of}
 use Rattle.text.specs.declared.lists.Listed.{Listed}
-use Rattle.text.proofs.ItemLaws.{was_span, was_no_span, span_ordered}
+use Rattle.text.proofs.ItemLaws.{spans, was_span, was_no_span, span_ordered}
 use Rattle.text.proofs.ListLaws.{listed_count, laid_length}
 
 -- ---- a list by its items
@@ -67,11 +67,11 @@ pub record Listing (runs : Bool) (field was out : List ℕ) (listed : Listed) (a
   pub whole : list_by runs field ≡ entries then each (item_by runs) (parts_at comma (drop at field))
   pub begun : entries_of runs field ≡ entries ++ items_ahead runs (parts_at comma (drop at field))
 
-list_refusal_lem : (o : Option (List ℕ)) → list_refusal (listed_as o) ≡ bad_if_none o
-list_refusal_lem none = refl
-list_refusal_lem (some xs) = refl
+list_refusal : (o : Option (List ℕ)) → refusal_of (listed_as o) ≡ bad_if_none o
+list_refusal none = refl
+list_refusal (some xs) = refl
 
-pub listing_none : (runs : Bool) (field was : List ℕ) → is "-" field ≡ false → {listed : Listed} → listed ≡ listed_as (some [])
+pub listing_none : (runs : Bool) (field was : List ℕ) → is "-" field ≡ false → {listed : Listed} → listed ≡ listed_of []
     → Listing runs field was was listed 0
 unfolding entries_of laid_over
 listing_none runs field was e empty =
@@ -83,15 +83,15 @@ listing_none runs field was e empty =
       begun = simp e;
     }
 
-pub listed_none : (runs : Bool) (field was : List ℕ) → is "-" field ≡ true → {listed : Listed} → listed ≡ listed_as (some [])
-    → ListedInto runs field was was listed
+pub listed_none : (runs : Bool) (field was : List ℕ) → is "-" field ≡ true → {listed : Listed} → listed ≡ listed_of []
+    → ListedInto runs field was was (Some listed)
 unfolding entries_of laid_over
 listed_none runs field was e empty =
     let none_there = list_none runs field e in
-    let answer = empty ∙ ap listed_as (sym none_there) in
+    let answer = ap (λ l. Some l) empty ∙ ap listed_as (sym none_there) in
     record {
       answer = answer;
-      refusal = ap list_refusal answer ∙ list_refusal_lem (list_by runs field);
+      refusal = ap refusal_of answer ∙ list_refusal (list_by runs field);
       stored = λ xs h. ap (λ xs. laid_over xs was) (some_injective [] xs (sym none_there ∙ h));
       begun = simp e;
       kept = refl;
@@ -123,7 +123,7 @@ module _ (runs : Bool) (field was out : List ℕ) (listed : Listed) (at : ℕ) (
   pub listing_count : listed.count ≤ most_counted
   listing_count = omega (arith, listed_count listed l.entries l.holds.answer)
 
-  pub listed_bad : item_at runs field at ≡ Span.Bad → ListedInto runs field was out (listed_as none)
+  pub listed_bad : item_at runs field at ≡ None → ListedInto runs field was out None
   unfolding item_at next
   listed_bad e =
       let no_item = was_no_span next (next_at comma field at) e in
@@ -140,7 +140,7 @@ module _ (runs : Bool) (field was out : List ℕ) (listed : Listed) (at : ℕ) (
       none_some : (xs : List ℕ) → none ≡ some xs → ⊥
       none_some xs e = let z : ◌≡◌ {A = ℕ} 0 1 = cc in omega arith
 
-  module _ (first last end : ℕ) (e : item_at runs field at ≡ Span.Of first last end) where
+  module _ (first last end : ℕ) (e : item_at runs field at ≡ spans first last end) where
     item_read : (item : Item) × (next ≡ some item) × (meant_by item ≡ spanned first last) × (next_at comma field at ≡ end)
     unfolding item_at next
     item_read = was_span next (next_at comma field at) first last end e
@@ -178,7 +178,7 @@ module _ (runs : Bool) (field was out : List ℕ) (listed : Listed) (at : ℕ) (
             begun = begun_one ∙ ap (λ parts. (l.entries ++ spanned first last) ++ items_ahead runs parts) rest;
           }
 
-      pub listed_last : end ≡ length field → ListedInto runs field was out' listed'
+      pub listed_last : end ≡ length field → ListedInto runs field was out' (Some listed')
       unfolding later
       listed_last at_end =
           let rest = last_part_lem comma field at l.within (item_read.3 ∙ at_end) in
@@ -187,10 +187,10 @@ module _ (runs : Bool) (field was out : List ℕ) (listed : Listed) (at : ℕ) (
           whole_one ∙ ap (λ parts. xs then each (item_by runs) (drop 1 parts)) rest ∙ ap some (append-nil xs) in
           let all : entries_of runs field ≡ xs =
           begun_one ∙ ap (λ parts. xs ++ items_ahead runs (drop 1 parts)) rest ∙ append-nil xs in
-          let answer = h.answer ∙ ap listed_as (sym full) in
+          let answer = ap (λ l. Some l) h.answer ∙ ap listed_as (sym full) in
           record {
             answer = answer;
-            refusal = ap list_refusal answer ∙ list_refusal_lem (list_by runs field);
+            refusal = ap refusal_of answer ∙ list_refusal (list_by runs field);
             stored = λ ys e. h.stored ∙ ap (λ xs. laid_over xs was) (some_injective _ ys (sym full ∙ e));
             begun = h.stored ∙ ap (λ xs. laid_over xs was) (sym all);
             kept = ap length h.stored ∙ laid_length xs was;

@@ -15,12 +15,12 @@ use lib.Seq.{drop-cons, get_or-drop}
 use borrow.Author.Tests.{eq-eqb, ne_eqb, le-leb, lt-leb, eqb-true, leb-true, ltb-true, ltb-false}
 use Rattle.format.specs.Text.{Bytes, number_of, is_digit, all, leading_zero, value_from, is, principal_of, ◌<$>◌}
 use Rattle.format.proofs.Booleans.{and_true as both}
-use Rattle.parts.specs.Refusals.{bad_if_none}
+use Rattle.std.specs.Prelude.{Option as Answer, None, Some}
+use Rattle.std.specs.Option.{option_map}
+use Rattle.std.proofs.lemmas.Option.{some_pair_parts}
+use Rattle.parts.specs.Refusals.{bad_if_none, refusal_of}
 use Rattle.parts.specs.Parts.{before}
-use Rattle.text.specs.Numbers.{number_as, principal_as, digits_ahead, entry_as, number_at, number_refusal, NumberRead, principal_refusal, PrincipalRead}
-use Rattle.text.specs.declared.numbers.Number.{Number}
-use Rattle.text.specs.declared.numbers.Optional.{Optional}
-use Rattle.text.specs.declared.numbers.Entry.{Entry}
+use Rattle.text.specs.Numbers.{number_as, principal_as, digits_ahead, entry_as, number_at, NumberRead, PrincipalRead}
 
 module _ (field : Bytes) where
   pub number_long : 5 < length field → number_of field ≡ none
@@ -52,38 +52,34 @@ pub number_read : (field : Bytes) → 1 ≤ length field → length field ≤ 5 
 unfolding number_of
 number_read field h l e d = simp (le-leb _ _ h, le-leb _ _ l, unpadded field e, d)
 
-number_refusal_lem : (o : Option ℕ) → number_refusal (number_as o) ≡ bad_if_none o
-number_refusal_lem none = refl
-number_refusal_lem (some n) = refl
+number_refusal : (o : Option ℕ) → refusal_of (number_as o) ≡ bad_if_none o
+number_refusal none = refl
+number_refusal (some n) = refl
 
-pub number_answered : (field : Bytes) {r : Number} → r ≡ number_as (number_of field) → NumberRead field r
-number_answered field e = record { answer = e; refusal = ap number_refusal e ∙ number_refusal_lem (number_of field) }
+pub number_answered : (field : Bytes) {r : Answer ℕ} → r ≡ number_as (number_of field) → NumberRead field r
+number_answered field e = record { answer = e; refusal = ap refusal_of e ∙ number_refusal (number_of field) }
 
 -- ---- a number or `-`
 
-abbrev pub optional : Number → Optional
-optional (Number.Value n) = Optional.Value n
-optional Number.Bad = Optional.Bad
-
-pub principal_absent : (field : Bytes) → is "-" field ≡ true → principal_as (principal_of field) ≡ Optional.Absent
+pub principal_absent : (field : Bytes) → is "-" field ≡ true → principal_as (principal_of field) ≡ Some None
 unfolding principal_of
 principal_absent field e = simp e
 
-pub principal_number_lem : (field : Bytes) → is "-" field ≡ false → principal_as (principal_of field) ≡ optional (number_as (number_of field))
+pub principal_number_lem : (field : Bytes) → is "-" field ≡ false
+    → principal_as (principal_of field) ≡ option_map (λ n. Some n) (number_as (number_of field))
 unfolding principal_of
 principal_number_lem field e = simp e (by_case (number_of field))
   where
-    by_case : (n : Option ℕ) → principal_as ((λ n. some n) <$> n) ≡ optional (number_as n)
+    by_case : (n : Option ℕ) → principal_as ((λ n. some n) <$> n) ≡ option_map (λ n. Some n) (number_as n)
     by_case none = refl
     by_case (some n) = refl
 
-principal_refusal_lem : (o : Option (Option ℕ)) → principal_refusal (principal_as o) ≡ bad_if_none o
-principal_refusal_lem none = refl
-principal_refusal_lem (some none) = refl
-principal_refusal_lem (some (some n)) = refl
+principal_refusal : (o : Option (Option ℕ)) → refusal_of (principal_as o) ≡ bad_if_none o
+principal_refusal none = refl
+principal_refusal (some i) = refl
 
-pub principal_answered : (field : Bytes) {r : Optional} → r ≡ principal_as (principal_of field) → PrincipalRead field r
-principal_answered field e = record { answer = e; refusal = ap principal_refusal e ∙ principal_refusal_lem (principal_of field) }
+pub principal_answered : (field : Bytes) {r : Answer (Answer ℕ)} → r ≡ principal_as (principal_of field) → PrincipalRead field r
+principal_answered field e = record { answer = e; refusal = ap refusal_of e ∙ principal_refusal (principal_of field) }
 
 -- ---- the digits at the start of some bytes
 
@@ -148,22 +144,22 @@ digits_to s no_digit (b ∷ bs) = by_test (eqb b s) refl (digits_to s no_digit b
 -- ---- a part of a field with the digits from `start` on: it is a number where it has nothing else
 
 -- what an answer tells of the number
-pub was_no_number : (o : Option ℕ) → number_as o ≡ Number.Bad → o ≡ none
+pub was_no_number : (o : Option ℕ) → number_as o ≡ None → o ≡ none
 was_no_number none e = refl
 was_no_number (some n) e = let z : ◌≡◌ {A = ℕ} 0 1 = cc in absurd (omega arith)
 
-pub was_number : (o : Option ℕ) (n : ℕ) → number_as o ≡ Number.Value n → o ≡ some n
+pub was_number : (o : Option ℕ) (n : ℕ) → number_as o ≡ Some n → o ≡ some n
 was_number none n e = let z : ◌≡◌ {A = ℕ} 0 1 = cc in absurd (omega arith)
 was_number (some m) n e = cc
 
 -- and an entry
-was_bad : (o : Option ℕ) (end : ℕ) → entry_as (number_as o) end ≡ Entry.Bad → o ≡ none
+was_bad : (o : Option ℕ) (end : ℕ) → entry_as (number_as o) end ≡ None → o ≡ none
 was_bad none end e = refl
 was_bad (some n) end e = let z : ◌≡◌ {A = ℕ} 0 1 = cc in absurd (omega arith)
 
-was_value : (o : Option ℕ) (k n end : ℕ) → entry_as (number_as o) k ≡ Entry.Value n end → (o ≡ some n) × (k ≡ end)
+was_value : (o : Option ℕ) (k n end : ℕ) → entry_as (number_as o) k ≡ Some (n, end) → (o ≡ some n) × (k ≡ end)
 was_value none k n end e = let z : ◌≡◌ {A = ℕ} 0 1 = cc in absurd (omega arith)
-was_value (some m) k n end e = (cc, cc)
+was_value (some m) k n end e = let h = some_pair_parts m n k end e in (ap some h.0, h.1)
 
 module _ (field : Bytes) (start : ℕ) (part : Bytes) (same : digits_ahead part ≡ digits_ahead (drop start field)) where
   cut : length (digits_ahead part) < length part → number_of part ≡ none
@@ -172,7 +168,7 @@ module _ (field : Bytes) (start : ℕ) (part : Bytes) (same : digits_ahead part 
   full : length (digits_ahead part) ≡ length part → number_of part ≡ number_of (digits_ahead (drop start field))
   full h = ap number_of (sym (digits_whole part h) ∙ same)
 
-  pub part_bad : number_at field start ≡ Entry.Bad → number_of part ≡ none
+  pub part_bad : number_at field start ≡ None → number_of part ≡ none
   unfolding number_at
   part_bad e = by_test (ltb (length (digits_ahead part)) (length part)) refl
     where
@@ -182,7 +178,7 @@ module _ (field : Bytes) (start : ℕ) (part : Bytes) (same : digits_ahead part 
           full (omega (arith, digits_length part, ltb-false (length (digits_ahead part)) (length part) l))
           ∙ was_bad (number_of (digits_ahead (drop start field))) _ e
 
-  module _ (n end : ℕ) (e : number_at field start ≡ Entry.Value n end) where
+  module _ (n end : ℕ) (e : number_at field start ≡ Some (n, end)) where
     value_at : (number_of (digits_ahead (drop start field)) ≡ some n) × (start + length (digits_ahead (drop start field)) ≡ end)
     unfolding number_at
     value_at = was_value (number_of (digits_ahead (drop start field))) (start + length (digits_ahead (drop start field))) n end e
@@ -227,7 +223,7 @@ module _ (field : Bytes) (start value end : ℕ) (r : Reading field start value 
   digit_here h e = rw (add-one, drop-cons field end 0, e)
 
   -- a sixth digit
-  pub reading_long : end < length field → is_digit (get_or field end 0) ≡ true → end - start ≡ 5 → number_at field start ≡ Entry.Bad
+  pub reading_long : end < length field → is_digit (get_or field end 0) ≡ true → end - start ≡ 5 → number_at field start ≡ None
   unfolding number_at
   reading_long h e l = rw (number_long (digits_ahead (drop start field)) (omega (arith, ap length (digit_here h e))))
 
@@ -276,7 +272,7 @@ module _ (field : Bytes) (start value end : ℕ) (r : Reading field start value 
     unfolding number_at run
     number_is o e = ap₂ (λ o k. entry_as (number_as o) k) (sym e) (sym reaches)
 
-    pub read_none : end ≡ start → Entry.Bad ≡ number_at field start
+    pub read_none : end ≡ start → None ≡ number_at field start
     read_none h = number_is none (number_empty run (omega (arith, reaches)))
 
     module _ (any : end ≡ start → ⊥) where
@@ -284,10 +280,10 @@ module _ (field : Bytes) (start value end : ℕ) (r : Reading field start value 
       unfolding run
       first = digits_first (drop start field) (omega (arith, reaches)) ∙ get_or-drop start field 0 0 ∙ ap (λ k. get_or field k 0) (omega arith)
 
-      pub read_padded : (end ≡ start + 1 → ⊥) → get_or field start 0 ≡ 48 → Entry.Bad ≡ number_at field start
+      pub read_padded : (end ≡ start + 1 → ⊥) → get_or field start 0 ≡ 48 → None ≡ number_at field start
       read_padded h e = number_is none (number_padded run (omega (arith, reaches)) (first ∙ e))
 
-      pub read_value : (start + 1 < end → get_or field start 0 ≡ 48 → ⊥) → Entry.Value value end ≡ number_at field start
+      pub read_value : (start + 1 < end → get_or field start 0 ≡ 48 → ⊥) → Some (value, end) ≡ number_at field start
       unfolding run
       read_value e =
           let unpadded : 1 < length run → get_or run 0 0 ≡ 48 → ⊥ = λ h z. e (omega (arith, reaches)) (sym first ∙ z) in

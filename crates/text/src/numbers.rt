@@ -53,5 +53,5 @@ pub fn read_principal(field: &[u8]) -> Option<Option<u32>>
     if is_dash(field) {
         return Some(None);
     }
-    read_number(field).map(Some)
+    Some(Some(read_number(field)?))
 }

@@ -1,5 +1,6 @@
 -- `text::items::read_run` meets its contract. Assumes nothing.
 use Prim.Native.Nat.{◌≤◌}
+use mathlib.Core.Path.{◌∙◌}
 use lib.ListN.{length}
 use Rattle.parts.proofs.PartLaws.{next_bounds}
 use Rattle.text.proofs.ItemLaws.{run_bad, run_rises, run_falls}
@@ -19,11 +20,11 @@ slice_bounds-read_number-start c = (bounds c).0
 pub slice_bounds-read_number-end : goal.slice_bounds-read_number-end
 slice_bounds-read_number-end c = (bounds c).1
 
-pub returns-in_default : goal.returns-in_default
-returns-in_default c = run_bad _ _ _ c.find-end.ensures c.read_number-number.ensures.answer c.in_default.is
+pub returns-in_err-last : goal.returns-in_err-last
+returns-in_err-last c = c.from_residual.ensures ∙ run_bad _ _ _ c.find-end.ensures c.read_number.ensures.answer (c.in_err-last.was)
 
 pub returns-then-first-last : goal.returns-then-first-last
-returns-then-first-last c = run_rises _ _ _ c.find-end.ensures c.read_number-number.ensures.answer c.in-Value.is c.if-first-last.true
+returns-then-first-last c = run_rises _ _ _ c.find-end.ensures c.read_number.ensures.answer (c.in_ok-last.was) c.if-first-last.true
 
 pub returns : goal.returns
-returns c = run_falls _ _ _ c.find-end.ensures c.read_number-number.ensures.answer c.in-Value.is c.if-first-last.false
+returns c = run_falls _ _ _ c.find-end.ensures c.read_number.ensures.answer (c.in_ok-last.was) c.if-first-last.false

@@ -9,10 +9,10 @@ pub returns-then-listed : goal.returns-then-listed
 returns-then-listed c xs e =
     let args = c.args in
     let rises = ap (λ t. t && leb args.listed.above args.first) (sym c.if-listed.true) in
-    entered_with _ _ c.requires.1 _ _ c.counted.ensures _ c.larger.ensures _ rises xs e
+    entered_with _ _ c.requires.1 _ _ c.counted.ensures _ c.max.ensures _ rises xs e
 
 pub returns-else-listed : goal.returns-else-listed
 returns-else-listed c xs e =
     let args = c.args in
     let rises = c.if-listed.false ∙ ap (λ t. t && leb args.listed.above args.first) (sym c.if-listed.false) in
-    entered_with _ _ c.requires.1 _ _ c.counted.ensures _ c.larger.ensures _ rises xs e
+    entered_with _ _ c.requires.1 _ _ c.counted.ensures _ c.max.ensures _ rises xs e

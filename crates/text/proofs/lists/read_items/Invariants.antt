@@ -5,8 +5,8 @@ use lib.ListN.{length}
 use Rattle.text.proofs.Listing.{Listing}
 use Rattle.text.proofs.lists.read_items.Given as goal
 
-abbrev pub invariant-loop-first : goal.invariant-loop-first
-invariant-loop-first l = Listing l.runs l.field l.initial.out l.out l.listed l.at
+abbrev pub invariant-loop-item : goal.invariant-loop-item
+invariant-loop-item l = Listing l.runs l.field l.initial.out l.out l.listed l.at
 
-abbrev pub decreases-loop-first : goal.decreases-loop-first
-decreases-loop-first l = length l.field - l.at
+abbrev pub decreases-loop-item : goal.decreases-loop-item
+decreases-loop-item l = length l.field - l.at

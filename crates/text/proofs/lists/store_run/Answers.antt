@@ -11,10 +11,10 @@ pub bounds-out-place : goal.bounds-out-place
 bounds-out-place c = c.loop-place-test.true
 
 pub shape_of-out-then-n-last : goal.shape_of-out-then-n-last
-shape_of-out-then-n-last c = storing_length _ _ _ _ _ _ _ c.loop-place.invariant _ c.narrow.ensures
+shape_of-out-then-n-last c = storing_length _ _ _ _ _ _ _ c.loop-place.invariant _ refl
 
 pub returns-then-n-last : goal.returns-then-n-last
-returns-then-n-last c = stored_last _ _ _ _ _ _ _ c.loop-place.invariant _ c.narrow.ensures c.if-n-last.true
+returns-then-n-last c = stored_last _ _ _ _ _ _ _ c.loop-place.invariant _ refl c.if-n-last.true
 
 pub overflow_add-n : goal.overflow_add-n
 overflow_add-n c = omega (arith, lt_of_le_of_ne c.loop-place.invariant.ordered c.if-n-last.false, c.ranges.last)
@@ -26,7 +26,7 @@ pub loop-place-smaller : goal.loop-place-smaller
 loop-place-smaller c = omega (arith, c.loop-place-test.true, c.loop-place.invariant.kept)
 
 pub loop-place-preserved : goal.loop-place-preserved
-loop-place-preserved c = storing_more _ _ _ _ _ _ _ c.loop-place.invariant _ c.narrow.ensures c.if-n-last.false
+loop-place-preserved c = storing_more _ _ _ _ _ _ _ c.loop-place.invariant _ refl c.if-n-last.false
 
 pub shape_of-out : goal.shape_of-out
 shape_of-out c = c.loop-place.invariant.kept

@@ -1,28 +1,20 @@
-use mathlib.Core.Path.{◌≡◌, sym, ap, ◌∙◌}
-use mathlib.Core.Bool.{true}
+use mathlib.Core.Path.{◌≡◌, sym, ◌∙◌}
 use mathlib.Core.List.{[]}
 use native.Mathlib.Omega.{arith}
-use borrow.Author.Tests.{not-true, not-false}
-use lib.ListN.{drop}
-use Rattle.format.specs.Text.{is_digit}
+use lib.ListN.{drop, get_or}
 use Rattle.text.specs.Numbers.{digits_ahead}
 use Rattle.text.proofs.NumberLaws.{reading_none, reading_long, reading_small, reading_more, reading_past, reading_stray}
 use Rattle.text.proofs.NumberLaws.{digit_range, read_none, read_padded, read_value}
 use Rattle.text.proofs.numbers.number_at.Goals as goal
-use Rattle.text.proofs.numbers.number_at.Goals.{After-wide32}
 use Rattle.text.proofs.numbers.number_at.Goals.{Left-loop-end}
-use Rattle.text.proofs.numbers.number_at.Goals.{else-loop-end-test, then-loop-end-test+then-not-is_digit}
-
--- the byte is a digit
-is_one : (c : After-wide32) → is_digit c.wide32.result ≡ true
-is_one c = ap is_digit c.wide32.ensures ∙ sym c.is_digit.ensures ∙ not-false _ c.if-not-is_digit.false-raw
+use Rattle.text.proofs.numbers.number_at.Goals.{else-loop-end-test, then-loop-end-test+then-not-is_ascii_digit}
 
 -- where the loop is left no digit follows
 no_more : (c : Left-loop-end) → digits_ahead (drop c.loop-end.end c.args.field.now) ≡ []
 no_more c =
     elim c.loop-end-test.branch [
       | else-loop-end-test w ↦ reading_past _ _ _ _ c.loop-end.invariant w.loop-end-test.false
-      | then-loop-end-test+then-not-is_digit w ↦ reading_stray _ _ _ _ c.loop-end.invariant w.loop-end-test.true (sym w.is_digit.ensures ∙ not-true _ w.if-not-is_digit.true-raw)
+      | then-loop-end-test+then-not-is_ascii_digit w ↦ reading_stray _ _ _ _ c.loop-end.invariant w.loop-end-test.true (sym w.is_ascii_digit.ensures.value ∙ w.if-not-is_ascii_digit.true)
     ]
 
 pub loop-end-init : goal.loop-end-init
@@ -30,23 +22,21 @@ loop-end-init c = reading_none _ _ c.requires
 
 pub returns-then-end-at-eq5 : goal.returns-then-end-at-eq5
 returns-then-end-at-eq5 c =
-    let digit = sym c.is_digit.ensures ∙ not-false _ c.if-not-is_digit.false-raw in
+    let digit = sym c.is_ascii_digit.ensures.value ∙ c.if-not-is_ascii_digit.false in
     sym (reading_long _ _ _ _ c.loop-end.invariant c.loop-end-test.true digit c.if-end-at-eq5.true)
 
 pub overflow_mul-value : goal.overflow_mul-value
 overflow_mul-value c = omega (arith, reading_small _ _ _ _ c.loop-end.invariant c.if-end-at-eq5.false)
 
-pub overflow_sub-value : goal.overflow_sub-value
-overflow_sub-value c = omega (arith, digit_range c.wide32.result (is_one c))
-
 pub overflow_add-value : goal.overflow_add-value
-overflow_add-value c = omega (arith, reading_small _ _ _ _ c.loop-end.invariant c.if-end-at-eq5.false, digit_range c.wide32.result (is_one c))
+overflow_add-value c =
+    let digit = sym c.is_ascii_digit.ensures.value ∙ c.if-not-is_ascii_digit.false in
+    omega (arith, reading_small _ _ _ _ c.loop-end.invariant c.if-end-at-eq5.false, digit_range (get_or c.args.field.now c.loop-end.end 0) digit)
 
 pub loop-end-preserved : goal.loop-end-preserved
 loop-end-preserved c =
-    let digit = sym c.is_digit.ensures ∙ not-false _ c.if-not-is_digit.false-raw in
-    let more = c.loop-end-test.true in
-    rw c.wide32.ensures (reading_more _ _ _ _ c.loop-end.invariant c.if-end-at-eq5.false more digit)
+    let digit = sym c.is_ascii_digit.ensures.value ∙ c.if-not-is_ascii_digit.false in
+    rw c.from.ensures (reading_more _ _ _ _ c.loop-end.invariant c.if-end-at-eq5.false c.loop-end-test.true digit)
 
 pub returns-then-end-at : goal.returns-then-end-at
 returns-then-end-at c = read_none _ _ _ _ c.loop-end.invariant (no_more (goal.at.returns-then-end-at c).Left-loop-end) c.if-end-at.true

@@ -5,11 +5,12 @@ use Rattle.text.specs.Numbers.{number_as}
 use Rattle.text.proofs.NumberLaws.{number_answered, part_bad, part_cut, part_full}
 use Rattle.text.proofs.numbers.read_number.Goals as goal
 
-pub returns-in_default : goal.returns-in_default
-returns-in_default c = number_answered _ (ap number_as (sym (part_bad _ 0 _ refl (sym c.number_at-number.ensures ∙ c.in_default.is))))
+pub returns-in_err-n : goal.returns-in_err-n
+returns-in_err-n c =
+    number_answered _ (c.from_residual.ensures ∙ ap number_as (sym (part_bad _ 0 _ refl (sym c.number_at.ensures ∙ c.in_err-n.was))))
 
 pub returns-then-end-field : goal.returns-then-end-field
-returns-then-end-field c = number_answered _ (ap number_as (sym (part_cut _ 0 _ refl _ _ (sym c.number_at-number.ensures ∙ c.in-Value.is) (omega arith))))
+returns-then-end-field c = number_answered _ (ap number_as (sym (part_cut _ 0 _ refl _ _ (sym c.number_at.ensures ∙ c.in_ok-n.was) (omega arith))))
 
 pub returns : goal.returns
-returns c = number_answered _ (ap number_as (sym (part_full _ 0 _ refl _ _ (sym c.number_at-number.ensures ∙ c.in-Value.is) (omega arith))))
+returns c = number_answered _ (ap number_as (sym (part_full _ 0 _ refl _ _ (sym c.number_at.ensures ∙ c.in_ok-n.was) (omega arith))))
