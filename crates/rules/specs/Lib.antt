@@ -1,1 +1,2 @@
 pub mod RuleTable
+pub mod Steps

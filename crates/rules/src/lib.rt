@@ -4,6 +4,7 @@
 
 ghost use Rattle.std.specs.Prelude.{◌≡◌, get_or};
 ghost use Rattle.rules.specs.RuleTable.{packed_rules, rule_number};
+ghost use Rattle.rules.specs.Steps.{Judged};
 
 // The places of a rule's numbers: how it is judged, its kind, whether it has a principal formula, the count of its premises
 // and their kinds.
@@ -26,6 +27,17 @@ pub const PARTS: usize = 6;
 const NUMBERS: usize = 18;
 
 const LAST: usize = NUMBERS - 1;
+
+// How a rule is judged: as one of the table, by the form of its principal formula, or as one that is written out.
+#[derive(Clone, Copy)]
+pub enum Step {
+    Schema,
+    Default,
+    Cut,
+    Unstable,
+    Initial,
+    Swap,
+}
 
 // The numbers of a rule in their order, as octal digits, of which the first number has two:
 // - how it is judged: by the form of its principal formula (0 #, 1 any, 2 ~, 3 &, 4 |, 5 ->, 6 ~~, 7 ~&, 10 ~|, 11 ~->), or as
@@ -93,4 +105,18 @@ pub fn rule_number(rule: u16, at: usize) -> u8
         return (from % 256) as u8;
     }
     (from % 8) as u8
+}
+
+// How a rule is judged.
+pub fn step_of(rule: u16) -> Step
+    ensures { Judged (rule_number rule 0) result }
+{
+    match rule_number(rule, STEP) {
+        10 => Step::Default,
+        11 => Step::Cut,
+        12 => Step::Unstable,
+        13 => Step::Initial,
+        14 => Step::Swap,
+        _ => Step::Schema,
+    }
 }

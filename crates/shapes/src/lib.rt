@@ -5,7 +5,7 @@
 ghost use Rattle.std.specs.Prelude.{◌≡◌};
 ghost use Rattle.shapes.specs.Shapes.{doubled_in, negated_in, ShapeRead};
 
-use tables::records::{node, wide};
+use tables::records::{AND, ATOM, BOT, NOT, OR, node};
 
 // #, p, ~#, ~p, ~~p, A&B and A|B, the atoms and formulas by number; anything else.
 #[derive(Clone, Copy)]
@@ -24,52 +24,37 @@ pub enum Shape {
 fn doubled_shape(formulas: &[u16], x: u16) -> Shape
     ensures { result ≡ doubled_in formulas.now x }
 {
-    let n = node(formulas, wide(x));
-    let word = n.word;
-    if word == 1 {
-        return Shape::Doubled(wide(n.first));
+    let n = node(formulas, usize::from(x));
+    match n.word {
+        ATOM => Shape::Doubled(usize::from(n.first)),
+        _ => Shape::Other,
     }
-    Shape::Other
 }
 
 // The shape of the negation of formula x.
 fn negated_shape(formulas: &[u16], x: u16) -> Shape
     ensures { result ≡ negated_in formulas.now x }
 {
-    let n = node(formulas, wide(x));
-    let word = n.word;
-    if word == 0 {
-        return Shape::Verum;
+    let n = node(formulas, usize::from(x));
+    match n.word {
+        BOT => Shape::Verum,
+        ATOM => Shape::Negated(usize::from(n.first)),
+        NOT => doubled_shape(formulas, n.first),
+        _ => Shape::Other,
     }
-    if word == 1 {
-        return Shape::Negated(wide(n.first));
-    }
-    if word == 2 {
-        return doubled_shape(formulas, n.first);
-    }
-    Shape::Other
 }
 
 // The shape of formula x.
 pub fn shape_of(formulas: &[u16], x: u16) -> Shape
     ensures { ShapeRead formulas.now x result }
 {
-    let n = node(formulas, wide(x));
-    let word = n.word;
-    if word == 0 {
-        return Shape::Falsum;
+    let n = node(formulas, usize::from(x));
+    match n.word {
+        BOT => Shape::Falsum,
+        ATOM => Shape::Atom(usize::from(n.first)),
+        NOT => negated_shape(formulas, n.first),
+        AND => Shape::Conjunction(n.first, n.second),
+        OR => Shape::Disjunction(n.first, n.second),
+        _ => Shape::Other,
     }
-    if word == 1 {
-        return Shape::Atom(wide(n.first));
-    }
-    if word == 2 {
-        return negated_shape(formulas, n.first);
-    }
-    if word == 3 {
-        return Shape::Conjunction(n.first, n.second);
-    }
-    if word == 4 {
-        return Shape::Disjunction(n.first, n.second);
-    }
-    Shape::Other
 }
