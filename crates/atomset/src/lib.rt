@@ -60,25 +60,18 @@ pub fn is_empty(set: u64) -> bool
     set == 0
 }
 
-// The counts of a word's digits come as `u32`, and atoms and lengths are `usize`.
-fn wide(x: u32) -> usize
-    ensures { result ≡ x }
-{
-    x as usize
-}
-
 // How many members the set has.
 pub fn count(set: u64) -> usize
     ensures { result ≡ length (members set) }
 {
-    wide(u64::count_ones(set))
+    set.count_ones() as usize
 }
 
 // The lowest member; 64 if there is none.
 pub fn first(set: u64) -> usize
     ensures { result ≡ get_or (members set) 0 64 }
 {
-    wide(u64::trailing_zeros(set))
+    set.trailing_zeros() as usize
 }
 
 // The set without its lowest member; the empty set stays empty.

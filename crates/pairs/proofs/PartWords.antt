@@ -1,23 +1,33 @@
 -- A part of a set as a word, put together atom by atom. Assumes nothing.
-use Prim.Native.Nat.{ℕ, ◌/◌, ◌^◌, ◌<◌}
+use Prim.Native.Nat.{ℕ, zero, suc, ◌+◌, ◌/◌, ◌^◌, ◌<◌}
+use native.Mathlib.Omega.{arith}
 use mathlib.Core.Bool.{Bool, true, false, ◌&&◌, ◌||◌, and-true, or_assoc, or-false}
 use mathlib.Core.List.Memᴰ
 use mathlib.Core.List.{List, [], ◌∷◌}
+use mathlib.Core.Logic.{⊎_elim}
 use mathlib.Core.Path.{◌≡◌, refl, sym, ap, subst, ◌∙◌}
 use borrow.Author.Tests.{lt-ltb}
 use lib.Dec.{eqb, ltb}
 use Rattle.equilibrium.specs.Meaning.{◌∈◌}
-use Rattle.atomset.specs.AtomSet.{has, cons_if, members, set_of}
+use Rattle.atomset.specs.AtomSet.{has, cons_if, members_from, members, set_of}
 use Rattle.atomset.proofs.Digits.{has_or, has_power, has_zero, same_members}
-use Rattle.atomset.proofs.Membership.{member_lt}
-use Rattle.atomset.proofs.Members.{member_members}
 use Rattle.atomset.proofs.SetOf.{set_of_lt}
 use Rattle.pairs.specs.Parts.{part}
 use Rattle.pairs.proofs.Parts.{part_inside}
 
 -- a word's members are below 64
-member_small : (set : ℕ) → set < 2 ^ 64 → (i : ℕ) → i ∈ members set → i < 64
-member_small set small i m = member_lt 64 set i small ((member_members set small i).1 m)
+below_from : (set i n z : ℕ) → z ∈ members_from set i n → z < i + n
+unfolding members_from
+below_from set i zero z m = absurd (Memᴰ.not-nil m)
+below_from set i (suc n) z m = by (has set i) (λ k. omega (arith, below_from set (suc i) n z k)) m
+  where
+    by : (b : Bool) → (z ∈ members_from set (suc i) n → z < i + suc n) → z ∈ cons_if b i (members_from set (suc i) n) → z < i + suc n
+    by true later k = ⊎_elim (λ (e : z ≡ i). omega arith) later (Memᴰ.cases_cons k)
+    by false later k = later k
+
+member_small : (set i : ℕ) → i ∈ members set → i < 64
+unfolding members
+member_small set i m = below_from set 0 64 i m
 
 -- the lowest atom is in a part if the lowest digit is 1, and the others are as the other digits say
 part_cons : (n p : ℕ) (ps : List ℕ) (i : ℕ) → has (set_of (part n (p ∷ ps))) i ≡ ((has n 0 && eqb i p) || has (set_of (part (n / 2) ps)) i)
@@ -33,13 +43,15 @@ abbrev pub Taken : ℕ → ℕ → ℕ → ℕ → ℕ → Type 0
 Taken model n set rest digits = (i : ℕ) → has (set_of (part n (members model))) i ≡ (has set i || has (set_of (part digits (members rest))) i)
 
 -- at the start none is passed
-pub taken_none : (model n : ℕ) → Taken model n 0 model n
-taken_none model n i = ap (λ (x : Bool). x || has (set_of (part n (members model))) i) (sym (has_zero i))
+pub taken_none : (model n rest : ℕ) → members rest ≡ members model → Taken model n 0 rest n
+taken_none model n rest e i =
+    ap (λ (x : Bool). x || has (set_of (part n (members model))) i) (sym (has_zero i))
+    ∙ ap (λ (ps : List ℕ). has 0 i || has (set_of (part n ps)) i) (sym e)
 
 -- one atom more
-pub taken_next : (model n set set' rest rest' digits p : ℕ) → rest < 2 ^ 64 → members rest ≡ p ∷ members rest'
+pub taken_next : (model n set set' rest rest' digits p : ℕ) → members rest ≡ p ∷ members rest'
     → ((i : ℕ) → has set' i ≡ (has set i || (has digits 0 && (eqb i p && ltb p 64)))) → Taken model n set rest digits → Taken model n set' rest' (digits / 2)
-taken_next model n set set' rest rest' digits p small walk more taken i =
+taken_next model n set set' rest rest' digits p walk more taken i =
     taken i
     ∙ ap (λ (ps : List ℕ). has set i || has (set_of (part digits ps)) i) walk
     ∙ ap (λ (x : Bool). has set i || x) (part_cons digits p (members rest') i)
@@ -50,18 +62,18 @@ taken_next model n set set' rest rest' digits p small walk more taken i =
     later = has (set_of (part (digits / 2) (members rest'))) i
 
     below : p < 64
-    below = member_small rest small p (subst (λ (ps : List ℕ). p ∈ ps) (sym walk) (Memᴰ.head refl))
+    below = member_small rest p (subst (λ (ps : List ℕ). p ∈ ps) (sym walk) (Memᴰ.head refl))
 
     inside : (eqb i p && ltb p 64) ≡ eqb i p
     inside = ap (λ (x : Bool). eqb i p && x) (lt-ltb p 64 below) ∙ and-true (eqb i p)
 
 -- no atom is left
-pub taken_all : (model n set rest digits : ℕ) → model < 2 ^ 64 → set < 2 ^ 64 → members rest ≡ [] → Taken model n set rest digits
+pub taken_all : (model n set rest digits : ℕ) → set < 2 ^ 64 → members rest ≡ [] → Taken model n set rest digits
     → set ≡ set_of (part n (members model))
 unfolding part set_of
-taken_all model n set rest digits small fits none taken =
+taken_all model n set rest digits fits none taken =
     same_members 64 set (set_of (part n (members model))) fits
-    (set_of_lt 64 (part n (members model)) (λ i m. member_small model small i (part_inside n (members model) i m)))
+    (set_of_lt 64 (part n (members model)) (λ i m. member_small model i (part_inside n (members model) i m)))
     (λ i l. sym (taken i
     ∙ ap (λ (ps : List ℕ). has set i || has (set_of (part digits ps)) i) none
     ∙ ap (λ (x : Bool). has set i || x) (has_zero i)

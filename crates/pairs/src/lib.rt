@@ -3,64 +3,41 @@
 // as true in (h,t) as in (t,t), and an implication holds in (h,t) only if it does in (t,t).
 #![tactic(auto)]
 
-ghost use Rattle.std.specs.Prelude.{◌≡◌, Bool, ◌&&◌, ◌||◌, List, map, ℕ, min, max, eqb, ltb, get_or};
+ghost use Rattle.std.specs.Prelude.{◌≡◌, Bool, ◌&&◌, ◌||◌, List, map, ℕ, eqb, ltb, get_or};
 ghost use Rattle.atomset.specs.AtomSet.{has, members, set_of};
 ghost use Rattle.pairs.specs.Bounds.{PastLargest};
 ghost use Rattle.pairs.specs.Parts.{part};
 ghost use Rattle.pairs.specs.Truths.{judged_by, digit, noted_at, NotedThere, NotedHere};
 
-use atomset::{contains, first, insert, is_empty, without_first};
-use tables::records::{AND, ATOM, IMP, NOT, NodeRecord, OR, node, wide};
-
-// The smaller of two numbers.
-fn smaller(a: usize, b: usize) -> usize
-    ensures { result ≡ min a b }
-{
-    if b < a {
-        return b;
-    }
-    a
-}
+use atomset::{contains, insert, members_of};
+use tables::records::{AND, ATOM, IMP, NOT, NodeRecord, OR, node};
 
 // The note of a formula, 0 where there is none.
 fn note_of(notes: &[u8], i: u16) -> u8
     ensures { result ≡ get_or notes.now i 0 }
 {
-    let at = wide(i);
-    if at < notes.len() {
-        return notes[at];
-    }
-    0
+    notes.get(usize::from(i)).copied().unwrap_or(0)
 }
 
 // Whether a formula is noted to hold.
 pub fn holds(notes: &[u8], at: usize) -> bool
     ensures { result ≡ noted_at notes.now at }
 {
-    if at >= notes.len() {
-        return false;
-    }
-    notes[at] == 1
+    notes.get(at).is_some_and(|note| *note == 1)
 }
 
 // The same, as 0 or 1.
 fn truth_of(notes: &[u8], at: usize) -> u8
     ensures { result ≡ digit (noted_at notes.now at) }
 {
-    if holds(notes, at) {
-        return 1;
-    }
-    0
+    u8::from(holds(notes, at))
 }
 
 // Whether an atom is in the set, as 0 or 1.
 fn atom_in(set: u64, atom: u16) -> u8
     ensures { result ≡ digit (has set atom) }
 {
-    if contains(set, wide(atom)) {
-        return 1;
-    }
-    0
+    u8::from(contains(set, usize::from(atom)))
 }
 
 // The truth of the formula of a record, by the truths before it: `negation` is its truth if it is one, and an implication holds
@@ -95,13 +72,10 @@ fn judged(key: NodeRecord, set: u64, negation: u8, allowed: u8, before: &[u8]) -
 pub fn fill_there(formulas: &[u16], count: usize, t: u64, there: &mut [u8])
     ensures { NotedThere formulas.now count t there.old there.new }
 {
-    let end = smaller(count, there.len());
-    let mut i = 0;
-    while i < end {
+    for i in 0..count.min(there.len()) {
         let key = node(formulas, i);
         let negation = note_of(&there[..i], key.first) ^ 1;
         there[i] = judged(key, t, negation, 1, &there[..i]);
-        i += 1;
     }
 }
 
@@ -109,12 +83,9 @@ pub fn fill_there(formulas: &[u16], count: usize, t: u64, there: &mut [u8])
 pub fn fill_here(formulas: &[u16], count: usize, h: u64, there: &[u8], here: &mut [u8])
     ensures { NotedHere formulas.now count h there.now here.old here.new }
 {
-    let end = smaller(count, here.len());
-    let mut i = 0;
-    while i < end {
+    for i in 0..count.min(here.len()) {
         let own = truth_of(there, i);
         here[i] = judged(node(formulas, i), h, own, own, &here[..i]);
-        i += 1;
     }
 }
 
@@ -133,35 +104,21 @@ pub fn part_of(set: u64, n: u64) -> u64
     ensures { result ≡ set_of (part n (members set)) }
 {
     let mut taken = 0;
-    let mut rest = set;
     let mut digits = n;
-    while !is_empty(rest) {
-        taken = with_digit(taken, first(rest), digits);
-        rest = without_first(rest);
+    for atom in members_of(set) {
+        taken = with_digit(taken, atom, digits);
         digits /= 2;
     }
     taken
-}
-
-// The larger of two numbers.
-fn larger(a: usize, b: usize) -> usize
-    ensures { result ≡ max a b }
-{
-    if a < b {
-        return b;
-    }
-    a
 }
 
 // One more than the largest number of a side, 0 if it is empty.
 pub fn past_largest(side: &[u16]) -> usize
     ensures { PastLargest side.now result }
 {
-    let mut past = 0;
-    let mut i = 0;
-    while i < side.len() {
-        past = larger(past, wide(side[i]) + 1);
-        i += 1;
+    let mut past = 0usize;
+    for x in side {
+        past = past.max(usize::from(*x) + 1);
     }
     past
 }

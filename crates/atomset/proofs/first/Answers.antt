@@ -1,8 +1,7 @@
 -- `atomset::first` meets its contract: the zeros below the lowest 1 of a word number its lowest member. Assumes nothing.
-use mathlib.Core.Path.{◌∙◌}
 use borrow.Author.Rules.{rules}
 use Rattle.atomset.proofs.Members.{trailing_first}
 use Rattle.atomset.proofs.first.Goals as goal
 
 pub returns : goal.returns
-returns c = c.wide.ensures ∙ trailing_first c.args.set (search rules)
+returns c = trailing_first c.args.set (search rules)

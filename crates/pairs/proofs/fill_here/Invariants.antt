@@ -1,12 +1,8 @@
 -- `pairs::fill_here` meets its contract. The invariant of its loop: the truths of the formulas passed are noted. Assumes nothing.
-use Prim.Native.Nat.{◌-◌, ◌≤◌}
 use mathlib.Core.Path.{◌≡◌}
 use lib.ListN.{length}
 use Rattle.pairs.specs.Truths.{truths_here, noted, noted_at}
 use Rattle.pairs.proofs.fill_here.Given as goal
 
 abbrev pub invariant-loop-i : goal.invariant-loop-i
-invariant-loop-i l = (l.i ≤ l.end) × (length l.here ≡ length l.initial.here) × (l.here ≡ noted (truths_here l.formulas l.h (noted_at l.there) l.i) l.initial.here)
-
-abbrev pub decreases-loop-i : goal.decreases-loop-i
-decreases-loop-i l = l.end - l.i
+invariant-loop-i l = (length l.here ≡ length l.initial.here) × (l.here ≡ noted (truths_here l.formulas l.h (noted_at l.there) l.i) l.initial.here)

@@ -15,7 +15,7 @@ use Rattle.pairs.proofs.fill_there.Goals as goal
 
 pub loop-i-init : goal.loop-i-init
 unfolding truths
-loop-i-init c = (search rules, refl, refl)
+loop-i-init c = (refl, refl)
 
 pub slice_bounds-note_of-end-in-loop-i : goal.slice_bounds-note_of-end-in-loop-i
 slice_bounds-note_of-end-in-loop-i c = sym (length-take-le _ _ (search rules))
@@ -28,12 +28,11 @@ loop-i-preserved c =
     let args = c.args in
     let rule : ℕ → List Bool → NodeRecord → Bool = λ i. there_by args.t in
     let ts = truths rule args.formulas.now c.loop-i.i in
-    let front = ap (take c.loop-i.i) c.loop-i.invariant.2 ∙ noted_front rule args.formulas.now args.there.now c.loop-i.i in
+    let front = ap (take c.loop-i.i) c.loop-i.invariant.1 ∙ noted_front rule args.formulas.now args.there.now c.loop-i.i in
     let key = c.node-key.result in
     let fails = ap (λ (d : ℕ). bit_xor d 1) (c.note_of-negation.ensures ∙ note_read _ ts key.first front) ∙ digit_not (truth_of ts key.first) in (
-      search rules,
-      simp length-set c.loop-i.invariant.1,
-      ap (λ (notes : List ℕ). set notes c.loop-i.i c.judged.result) c.loop-i.invariant.2
+      simp length-set c.loop-i.invariant.0,
+      ap (λ (notes : List ℕ). set notes c.loop-i.i c.judged.result) c.loop-i.invariant.1
           ∙ noted_next rule args.formulas.now args.there.now c.loop-i.i c.judged.result (search rules)
           (c.judged.ensures ts (not (truth_of ts key.first)) true front fails refl
           ∙ ap (λ (n : NodeRecord). digit (there_by args.t ts n)) c.node-key.ensures),
@@ -42,6 +41,6 @@ loop-i-preserved c =
 pub returns : goal.returns
 returns c =
     let args = c.args in
-    let all : c.loop-i.i ≡ min args.count (length args.there.now) = omega (arith, c.smaller-end.ensures) in
-    let answer = c.loop-i.invariant.2 ∙ ap (λ (n : ℕ). noted (truths_there args.formulas.now args.t n) args.there.now) all in
+    let all : c.loop-i.i ≡ min args.count (length args.there.now) = omega (arith, c.min-i-end.ensures) in
+    let answer = c.loop-i.invariant.1 ∙ ap (λ (n : ℕ). noted (truths_there args.formulas.now args.t n) args.there.now) all in
     record { answer = answer; judges = λ b g. notes_there g args.t _ args.there.now answer }

@@ -1,29 +1,24 @@
-use native.Mathlib.Omega.{arith}
-use mathlib.Core.Path.{sym, ap, ◌∙◌}
-use lib.ListN.{length}
-use Rattle.atomset.proofs.Members.{walk_ends, walk_goes_on}
-use Rattle.pairs.proofs.PartWords.{taken_none, taken_next, taken_all}
+use mathlib.Core.Path.{ap, ◌∙◌}
 use borrow.Author.Rules.{rules}
+use Rattle.atomset.specs.Walk.{members_left}
+use Rattle.pairs.proofs.PartWords.{taken_none, taken_next, taken_all}
 use Rattle.pairs.proofs.part_of.Goals as goal
 
-pub loop-taken-init : goal.loop-taken-init
-loop-taken-init c = (search rules, search rules, taken_none c.args.set c.args.n)
+pub loop-atom-init : goal.loop-atom-init
+loop-atom-init c =
+    let args = c.args in (
+      search rules,
+      taken_none args.set args.n _ (ap members_left c.into_iter-atom-iterator.ensures.into_iter_gives ∙ c.members_of-atom-items.ensures),
+    )
 
-pub loop-taken-smaller : goal.loop-taken-smaller
-loop-taken-smaller c =
-    let walk = walk_goes_on c.loop-taken.rest _ _ (sym c.is_empty.ensures ∙ c.loop-taken-test.true)
-    c.first.ensures c.without_first-rest.ensures in
-    omega (arith, ap length walk)
-
-pub loop-taken-preserved : goal.loop-taken-preserved
-loop-taken-preserved c =
-    let args = c.args in
-    let walk = walk_goes_on c.loop-taken.rest _ _ (sym c.is_empty.ensures ∙ c.loop-taken-test.true)
-    c.first.ensures c.without_first-rest.ensures in
-    (search rules, search rules, taken_next args.set args.n _ _ _ _ _ _ c.loop-taken.invariant.1 walk c.with_digit-taken.ensures c.loop-taken.invariant.2)
+pub loop-atom-preserved : goal.loop-atom-preserved
+loop-atom-preserved c =
+    let args = c.args in (
+      search rules,
+      taken_next args.set args.n _ _ _ _ _ _ c.in-Some.ensures.steps c.with_digit-taken.ensures c.loop-atom.invariant.1,
+    )
 
 pub returns : goal.returns
 returns c =
     let args = c.args in
-    taken_all args.set args.n c.loop-taken.taken c.loop-taken.rest c.loop-taken.digits (search rules) c.loop-taken.invariant.0
-    (walk_ends _ (sym c.is_empty.ensures ∙ c.loop-taken-test.false)) c.loop-taken.invariant.2
+    taken_all args.set args.n c.loop-atom.taken _ c.loop-atom.digits c.loop-atom.invariant.0 c.in-None.ensures.steps.0 c.loop-atom.invariant.1
