@@ -16,7 +16,8 @@ use Rattle.format.specs.Line.{rule_among, rule_of}
 use Rattle.format.specs.Tables.{part, join_all}
 use Rattle.format.proofs.Booleans.{and_true as both, same_list_lem}
 use Rattle.format.proofs.WrittenLines.{rule_word}
-use Rattle.keywords.specs.Words.{rule_code, no_rule}
+use Rattle.keywords.specs.Words.{rule_code}
+use Rattle.std.specs.Prelude.{None, Some}
 use Rattle.keywords.specs.RuleWords.{start_in, word_in, WordsStand, word_at, place_of, CodesPlaced, Candidate}
 use Rattle.keywords.proofs.WordLaws.{all_below}
 
@@ -148,18 +149,18 @@ told (q ∷ qs) field r e = by (is (word_of q) field) refl e (told qs field r)
     by false t e later = later e
 
 module _ (field : Bytes) (code : ℕ) (candidate : Candidate field code) where
-  pub is_rule : same_list field (word_at code) ≡ true → code ≡ rule_code (rule_of field)
+  pub is_rule : same_list field (word_at code) ≡ true → Some code ≡ rule_code (rule_of field)
   is_rule e =
       let r = get_or rules code def in
       let coded = code_at code candidate.held in
       let same : field ≡ bytes (word_of r) = same_list_lem field (word_at code) e ∙ word_at_lem code r coded in
-      sym (ap (λ word. rule_code (rule_of word)) same ∙ ap rule_code (rule_word r).0 ∙ coded)
+      sym (ap (λ word. rule_code (rule_of word)) same ∙ ap rule_code (rule_word r).0 ∙ ap (λ n. Some n) coded)
 
-  pub is_no_rule : same_list field (word_at code) ≡ false → no_rule ≡ rule_code (rule_of field)
+  pub is_no_rule : same_list field (word_at code) ≡ false → None ≡ rule_code (rule_of field)
   unfolding rule_of
   is_no_rule e = by (rule_among rules field) refl
     where
-      by : (o : Option Rule) → rule_among rules field ≡ o → no_rule ≡ rule_code o
+      by : (o : Option Rule) → rule_among rules field ≡ o → None ≡ rule_code o
       by none o = refl
       by (some r) o =
           let this = told rules field r o in

@@ -1,59 +1,63 @@
 -- A word of an F line is told by its key, and a kind of line by its one byte.
 -- Assumes nothing.
-use Prim.Native.Nat.{ℕ, zero, suc, ◌+◌, ◌-◌, ◌*◌, ◌^◌, ◌≤◌, ◌<◌}
+use Prim.Native.Nat.{ℕ, zero, suc, ◌+◌, ◌*◌, ◌^◌, ◌≤◌, ◌<◌}
 use mathlib.Core.Path.{◌≡◌, refl, sym, ap, ◌∙◌}
 use mathlib.Core.Bool.{Bool, true, false, cond, true≢false, ◌||◌}
-use mathlib.Core.List.{[], ◌∷◌}
+use mathlib.Core.List.{[], ◌∷◌, ◌++◌, append_assoc}
+use Rattle.std.proofs.lemmas.List.{get_or-append-add}
 use native.Mathlib.Nat.{pow-suc, pow-le-pow_right}
 use native.Mathlib.Omega.{arith}
 use lib.Dec.{eqb, leb, ltb, lit<}
-use lib.ListN.{length, get_or, drop, length-drop}
-use lib.Seq.{drop-cons, drop-length, get_or-drop}
+use lib.ListN.{length, get_or, length-append}
 use borrow.Author.Tests.{eq-eqb, ne_eqb, leb-true, ltb-true}
 use Rattle.format.specs.Text.{Bytes, same_list, all, bytes, is}
 use Rattle.format.proofs.Booleans.{and_true as both, same_list_lem}
-use Rattle.parts.specs.Refusals.{bad_unless}
+use Rattle.parts.specs.Refusals.{bad_unless, refusal_of}
 use Rattle.parts.proofs.OneByte.{one_byte, not_one_byte}
-use Rattle.keywords.specs.Words.{kind_named, formula_word, key_of, IsKey, no_word, kind_refusal, KindRead}
-use Rattle.keywords.specs.declared.Kind.TheVariants.{Atom, Formula, Row, Model, Claim, Unknown}
+use Rattle.keywords.specs.Words.{kind_named, formula_word, key_of, IsKey, KindRead}
+use Rattle.keywords.specs.declared.Kind.TheVariants.{Atom, Formula, Row, Model, Claim}
 use Rattle.keywords.specs.declared.Kind.{Kind}
+use Rattle.keywords.specs.declared.Word.{Word}
+use Rattle.std.specs.Prelude.{Option, None, Some}
 
 -- ---- kinds of line
 
-pub kind_long : (field : Bytes) → (length field ≡ 1 → ⊥) → kind_named field ≡ Unknown
+pub kind_long : (field : Bytes) → (length field ≡ 1 → ⊥) → kind_named field ≡ None
 unfolding kind_named
 kind_long field h =
     simp (not_one_byte field 65 h, not_one_byte field 70 h, not_one_byte field 78 h, not_one_byte field 77 h, not_one_byte field 67 h)
 
 pub kind_byte : (field : Bytes) → length field ≡ 1
     → kind_named field
-    ≡ cond (eqb (get_or field 0 0) 65) Atom (
-    cond (eqb (get_or field 0 0) 70) Formula (
-    cond (eqb (get_or field 0 0) 78) Row (cond (eqb (get_or field 0 0) 77) Model (cond (eqb (get_or field 0 0) 67) Claim Unknown))))
+    ≡ cond (eqb (get_or field 0 0) 65) (Some Atom) (
+    cond (eqb (get_or field 0 0) 70) (Some Formula) (
+    cond (eqb (get_or field 0 0) 78) (Some Row) (
+    cond (eqb (get_or field 0 0) 77) (Some Model) (cond (eqb (get_or field 0 0) 67) (Some Claim) None))))
 unfolding kind_named
 kind_byte field h = simp (one_byte field 65 h, one_byte field 70 h, one_byte field 78 h, one_byte field 77 h, one_byte field 67 h)
 
-kind_refusal_lem : (a f n m c : Bool)
-    → kind_refusal (cond a Atom (cond f Formula (cond n Row (cond m Model (cond c Claim Unknown))))) ≡ bad_unless (a || f || n || m || c)
-kind_refusal_lem true f n m c = refl
-kind_refusal_lem false true n m c = refl
-kind_refusal_lem false false true m c = refl
-kind_refusal_lem false false false true c = refl
-kind_refusal_lem false false false false true = refl
-kind_refusal_lem false false false false false = refl
+kind_refusal : (a f n m c : Bool)
+    → refusal_of (cond a (Some Atom) (cond f (Some Formula) (cond n (Some Row) (cond m (Some Model) (cond c (Some Claim) None))))) ≡ bad_unless (a || f || n || m || c)
+kind_refusal true f n m c = refl
+kind_refusal false true n m c = refl
+kind_refusal false false true m c = refl
+kind_refusal false false false true c = refl
+kind_refusal false false false false true = refl
+kind_refusal false false false false false = refl
 
-pub kind_answered : (field : Bytes) {r : Kind} → r ≡ kind_named field → KindRead field r
+pub kind_answered : (field : Bytes) {r : Option Kind} → r ≡ kind_named field → KindRead field r
 unfolding kind_named
 kind_answered field e =
-    record { answer = e; refusal = ap kind_refusal e ∙ kind_refusal_lem (is "A" field) (is "F" field) (is "N" field) (is "M" field) (is "C" field) }
+    record { answer = e; refusal = ap refusal_of e ∙ kind_refusal (is "A" field) (is "F" field) (is "N" field) (is "M" field) (is "C" field) }
 
 -- ---- keys
 
 pub formula_key : (field : Bytes) (key : ℕ) → IsKey field key
     → formula_word field
-    ≡ cond (eqb key 0x1746f62) 0 (
-    cond (eqb key 0x16d6f7461) 1 (
-    cond (eqb key 0x1746f6e) 2 (cond (eqb key 0x1646e61) 3 (cond (eqb key 0x1726f) 4 (cond (eqb key 0x1706d69) 5 no_word)))))
+    ≡ cond (eqb key 0x1746f62) (Some Word.Bot) (
+    cond (eqb key 0x16d6f7461) (Some Word.Atom) (
+    cond (eqb key 0x1746f6e) (Some Word.Not) (
+    cond (eqb key 0x1646e61) (Some Word.And) (cond (eqb key 0x1726f) (Some Word.Or) (cond (eqb key 0x1706d69) (Some Word.Imp) None)))))
 unfolding formula_word key_of
 formula_key field key k =
     simp (
@@ -96,20 +100,17 @@ key_bound [] n s h = omega (arith, pow-le-pow_right {n = 256} (lit< tt) {i = 0} 
 key_bound (b ∷ bs) zero s h = absurd (omega arith)
 key_bound (b ∷ bs) (suc n) s h = rw (pow-suc) (omega (arith, s 0, key_bound bs n (λ i. s (suc i)) (omega arith)))
 
-pub key_none : (field : Bytes) → 1 ≡ key_of (drop (length field) field)
-unfolding key_of
-key_none field = sym (ap key_of (drop-length field))
+-- a turn of `pack`: the bytes of a field but the last ones, and the last of those
+module _ (field rest rest' ys : Bytes) (b : ℕ) (left : rest ≡ rest' ++ b ∷ []) (h : rest ++ ys ≡ field) where
+  pub key_more : rest' ++ b ∷ ys ≡ field
+  key_more = sym (append_assoc rest' (b ∷ []) ys) ∙ ap (λ r. r ++ ys) (sym left) ∙ h
 
--- a turn of `pack`: one byte more in front, with room for it
-module _ (field : Bytes) (at : ℕ) (s : Small field) (h : 0 < at) (l : at ≤ length field) where
-  pub key_step : key_of (drop (at - 1) field) ≡ key_of (drop at field) * 256 + get_or field (at - 1) 0
-  unfolding key_of
-  key_step =
-      let next : suc (at - 1) ≡ at = omega arith in
-      ap key_of (drop-cons field (at - 1) 0 (omega arith)) ∙ ap (λ n. key_of (drop n field) * 256 + get_or field (at - 1) 0) next
+  small_end : Small field → Small ys
+  small_end s i = rw (← get_or-append-add rest ys i 0) (rw h (s (length rest + i)))
 
-  pub key_room : length field ≤ 7 → key_of (drop at field) < 2 * 256 ^ 6
-  key_room short = key_bound (drop at field) 6 (λ i. rw (get_or-drop) (s (at + i))) (omega (arith, length-drop at field))
+  pub key_room : Small field → length field ≤ 7 → key_of ys < 2 * 256 ^ 6
+  key_room s short =
+      key_bound ys 6 (small_end s) (omega (arith, ap length h, length-append rest ys, ap length left, length-append rest' (b ∷ [])))
 
 key_tells : (field : Bytes) → Small field → IsKey field (key_of field)
 key_tells field s word short =
@@ -119,8 +120,9 @@ key_tells field s word short =
     by_test true e w = eq-eqb _ _ (ap key_of (same_list_lem field word e))
     by_test false e w = ne_eqb _ _ (λ k. true≢false (sym (key_injective field word s w k) ∙ e))
 
-pub key_done : (field : Bytes) (at key : ℕ) → Small field → at ≤ 0 → key ≡ key_of (drop at field) → IsKey field key
-key_done field at key s h e = let first : at ≡ 0 = omega arith in rw (e, first) (key_tells field s)
+pub key_done : (field rest ys : Bytes) (key : ℕ) → Small field → length rest ≡ 0 → rest ++ ys ≡ field → key ≡ key_of ys → IsKey field key
+key_done field [] ys key s l h e = rw (e ∙ ap key_of h) (key_tells field s)
+key_done field (b ∷ rest) ys key s l h e = absurd (omega arith)
 
 pub no_key : (field : Bytes) → 7 < length field → IsKey field 0
 no_key field h word short = by_test (same_list field word) refl

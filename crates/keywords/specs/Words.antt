@@ -1,54 +1,49 @@
 -- The words of a text as numbers: the kinds of line, the words of formulas, and the rules.
-use Rattle.std.specs.Prelude.{ℕ, ◌+◌, ◌*◌, ◌≡◌, Bool, true, cond, ◌&&◌, ◌||◌, [], ◌∷◌, eqb, leb, ltb, length}
-use Rattle.std.proofs.Math.Option.{Option, none, some}
+use Rattle.std.specs.Prelude.{ℕ, ◌+◌, ◌*◌, ◌≡◌, Bool, true, cond, ◌&&◌, ◌||◌, [], ◌∷◌, eqb, leb, ltb, length, Option, None, Some}
+use Rattle.std.proofs.Math.Option as Math
 use Rattle.elk.specs.Rules.{Rule, code_of}
 use Rattle.format.specs.Text.{Bytes, is, all, same_list}
-use Rattle.parts.specs.Refusals.{bad_line, bad_unless}
+use Rattle.parts.specs.Refusals.{bad_unless, refusal_of}
 use Rattle.keywords.specs.declared.Kind.{Kind}
-use Rattle.keywords.specs.declared.Kind.TheVariants.{Atom, Formula, Row, Model, Claim, Unknown}
+use Rattle.keywords.specs.declared.Kind.TheVariants.{Atom, Formula, Row, Model, Claim}
+use Rattle.keywords.specs.declared.Word.{Word}
 
 -- the kind of line that a first field names
-unfoldable pub kind_named : Bytes → Kind
+unfoldable pub kind_named : Bytes → Option Kind
 kind_named field =
-    cond (is "A" field) Atom (
-    cond (is "F" field) Formula (cond (is "N" field) Row (cond (is "M" field) Model (cond (is "C" field) Claim Unknown))))
+    cond (is "A" field) (Some Atom) (
+    cond (is "F" field) (Some Formula) (
+    cond (is "N" field) (Some Row) (cond (is "M" field) (Some Model) (cond (is "C" field) (Some Claim) None))))
 
 abbrev pub is_kind : Bytes → Bool
 is_kind field = is "A" field || is "F" field || is "N" field || is "M" field || is "C" field
 
--- the refusal number of each answer
-abbrev pub kind_refusal : Kind → Option ℕ
-kind_refusal Atom = none
-kind_refusal Formula = none
-kind_refusal Row = none
-kind_refusal Model = none
-kind_refusal Claim = none
-kind_refusal Unknown = some bad_line
-
-pub record KindRead (field : Bytes) (r : Kind) : Type 0 where
+pub record KindRead (field : Bytes) (r : Option Kind) : Type 0 where
   pub answer : r ≡ kind_named field
-  pub refusal : kind_refusal r ≡ bad_unless (is_kind field)
-
--- the number of a word that is none of an F line's
-abbrev pub no_word : ℕ
-no_word = 6
+  pub refusal : refusal_of r ≡ bad_unless (is_kind field)
 
 -- 0 to 5 for the words of an F line, in the order of the formulas table
-unfoldable pub formula_word : Bytes → ℕ
+abbrev pub word_code : Word → ℕ
+word_code Word.Bot = 0
+word_code Word.Atom = 1
+word_code Word.Not = 2
+word_code Word.And = 3
+word_code Word.Or = 4
+word_code Word.Imp = 5
+
+-- the word of an F line that a field is
+unfoldable pub formula_word : Bytes → Option Word
 formula_word field =
-    cond (is "bot" field) 0 (
-    cond (is "atom" field) 1 (
-    cond (is "not" field) 2 (
-    cond (is "and" field) 3 (
-    cond (is "or" field) 4 (cond (is "imp" field) 5 no_word)))))
+    cond (is "bot" field) (Some Word.Bot) (
+    cond (is "atom" field) (Some Word.Atom) (
+    cond (is "not" field) (Some Word.Not) (
+    cond (is "and" field) (Some Word.And) (
+    cond (is "or" field) (Some Word.Or) (cond (is "imp" field) (Some Word.Imp) None)))))
 
--- the code of a word that is no rule's
-abbrev pub no_rule : ℕ
-no_rule = 65535
-
-abbrev pub rule_code : Option Rule → ℕ
-rule_code none = no_rule
-rule_code (some r) = code_of r
+-- the code of a rule
+abbrev pub rule_code : Math.Option Rule → Option ℕ
+rule_code Math.none = None
+rule_code (Math.some r) = Some (code_of r)
 
 -- ---- keys
 

@@ -4,51 +4,30 @@
 ghost use Rattle.std.specs.Prelude.{◌≡◌, get_or};
 ghost use Rattle.format.specs.Text.{same_list};
 ghost use Rattle.format.specs.Line.{rule_of};
-ghost use Rattle.keywords.specs.Words.{KindRead, formula_word, rule_code, IsKey};
+ghost use Rattle.keywords.specs.Words.{KindRead, word_code, formula_word, rule_code, IsKey};
 ghost use Rattle.keywords.specs.RuleWords.{CodesPlaced, Candidate, WordsStand, word_at};
 
-use tables::names::same_bytes;
-
-#[derive(Clone, Copy)]
+#[derive(Clone, Copy, PartialEq, Eq)]
 pub enum Kind {
     Atom,
     Formula,
     Row,
     Model,
     Claim,
-    Unknown,
 }
 
-// The kind of line that its first field names.
-pub fn line_kind(field: &[u8]) -> Kind
+// The kind of line that its first field names; None for an unknown one.
+pub fn line_kind(field: &[u8]) -> Option<Kind>
     ensures { KindRead field.now result }
 {
-    if field.len() != 1 {
-        return Kind::Unknown;
+    match field {
+        [b'A'] => Some(Kind::Atom),
+        [b'F'] => Some(Kind::Formula),
+        [b'N'] => Some(Kind::Row),
+        [b'M'] => Some(Kind::Model),
+        [b'C'] => Some(Kind::Claim),
+        _ => None,
     }
-    let b = field[0];
-    if b == b'A' {
-        return Kind::Atom;
-    }
-    if b == b'F' {
-        return Kind::Formula;
-    }
-    if b == b'N' {
-        return Kind::Row;
-    }
-    if b == b'M' {
-        return Kind::Model;
-    }
-    if b == b'C' {
-        return Kind::Claim;
-    }
-    Kind::Unknown
-}
-
-fn wide64(b: u8) -> u64
-    ensures { result ≡ b }
-{
-    b as u64
 }
 
 // A word as one number, its key; 0 for one that is longer than every word of a text. The 1 above the bytes keeps apart words that
@@ -60,10 +39,8 @@ fn pack(field: &[u8]) -> u64
         return 0;
     }
     let mut key = 1u64;
-    let mut at = field.len();
-    while 0 < at {
-        at -= 1;
-        key = key * 256 + wide64(field[at]);
+    for b in field.iter().rev() {
+        key = key * 256 + u64::from(*b);
     }
     key
 }
@@ -81,42 +58,45 @@ const OR: u64 = 0x1726f;
 
 const IMP: u64 = 0x1706d69;
 
-// The number of a word that is none of an F line's.
-pub const NO_WORD: u32 = 6;
-
-// The word of an F line: 0 to 5, or `NO_WORD` for any other.
-pub fn formula_word(field: &[u8]) -> u32
-    ensures { result ≡ formula_word field.now }
-{
-    let key = pack(field);
-    if key == BOT {
-        return 0;
-    }
-    if key == ATOM {
-        return 1;
-    }
-    if key == NOT {
-        return 2;
-    }
-    if key == AND {
-        return 3;
-    }
-    if key == OR {
-        return 4;
-    }
-    if key == IMP {
-        return 5;
-    }
-    NO_WORD
+// The words of F lines, in the order of their codes in the formulas table.
+#[derive(Clone, Copy, PartialEq, Eq)]
+pub enum Word {
+    Bot,
+    Atom,
+    Not,
+    And,
+    Or,
+    Imp,
 }
 
-// The code of a word that is no rule's.
-pub const NO_RULE: u32 = 65535;
+impl From<Word> for u16 {
+    ghost from_gives = { λ word code. code ≡ word_code word };
 
-fn wide(b: u8) -> usize
-    ensures { result ≡ b }
+    fn from(word: Word) -> u16 {
+        match word {
+            Word::Bot => 0,
+            Word::Atom => 1,
+            Word::Not => 2,
+            Word::And => 3,
+            Word::Or => 4,
+            Word::Imp => 5,
+        }
+    }
+}
+
+// The word of an F line; None for any other.
+pub fn formula_word(field: &[u8]) -> Option<Word>
+    ensures { result ≡ formula_word field.now }
 {
-    b as usize
+    match pack(field) {
+        BOT => Some(Word::Bot),
+        ATOM => Some(Word::Atom),
+        NOT => Some(Word::Not),
+        AND => Some(Word::And),
+        OR => Some(Word::Or),
+        IMP => Some(Word::Imp),
+        _ => None,
+    }
 }
 
 // The code of the only rule whose word a field can be, if it is one, where the table has each rule's code at the place of its word. No word
@@ -132,7 +112,10 @@ fn candidate(codes: &[u8], field: &[u8]) -> u8
     if 7 < len {
         return 0;
     }
-    let place = 17 * len + 2 * wide(field[1]) + 3 * wide(field[len - 2]) / 2 + wide(field[len - 1]);
+    let place = 17 * len
+        + 2 * usize::from(field[1])
+        + 3 * usize::from(field[len - 2]) / 2
+        + usize::from(field[len - 1]);
     codes[place % 64]
 }
 
@@ -140,8 +123,8 @@ fn candidate(codes: &[u8], field: &[u8]) -> u8
 fn start_of(starts: &[u8], code: usize, end: usize) -> usize
     ensures { result ≡ get_or starts.now code end }
 {
-    if code < starts.len() {
-        return wide(starts[code]);
+    if let Some(start) = starts.get(code) {
+        return usize::from(*start);
     }
     end
 }
@@ -151,16 +134,16 @@ fn is_word(words: &[u8], starts: &[u8], code: u8, field: &[u8]) -> bool
     requires { WordsStand words.now starts.now }
     ensures { result ≡ same_list field.now (word_at code) }
 {
-    let at = wide(code);
+    let at = usize::from(code);
     let from = start_of(starts, at, words.len());
     let to = start_of(starts, at + 1, words.len());
-    same_bytes(field, &words[from..to])
+    field == &words[from..to]
 }
 
-// The code of the rule whose word this is; `NO_RULE` for any other. The words are held once, end to end in the order of their codes, with
+// The code of the rule whose word this is; None for any other. The words are held once, end to end in the order of their codes, with
 // where each starts. In `codes` each rule's code stands at the place of its word; at the other places any code will do, and zeros would take
 // more memory.
-pub fn rule_word(field: &[u8]) -> u32
+pub fn rule_word(field: &[u8]) -> Option<u16>
     ensures { result ≡ rule_code (rule_of field.now) }
 {
     let codes = b"\
@@ -182,7 +165,7 @@ pub fn rule_word(field: &[u8]) -> u32
         \x7b\x81\x88\x8f\x96\x9d\xa3\xa8\xae\xb4\
         ";
     if is_word(words, starts, code, field) {
-        return code as u32;
+        return Some(u16::from(code));
     }
-    NO_RULE
+    None
 }

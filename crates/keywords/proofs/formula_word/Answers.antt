@@ -1,61 +1,38 @@
 -- `keywords::formula_word` meets its contract. Assumes nothing.
-use mathlib.Core.Path.{sym, ◌∙◌}
-use borrow.Author.Tests.{eq-eqb, ne_eqb}
+use mathlib.Core.Path.{◌≡◌, sym, ◌∙◌}
+use native.Mathlib.Omega.{arith}
+use borrow.Author.Tests.{ne_eqb}
 use Rattle.keywords.proofs.WordLaws.{formula_key}
 use Rattle.keywords.proofs.formula_word.Goals as goal
 
-pub returns-then-key-eq-BOT : goal.returns-then-key-eq-BOT
-returns-then-key-eq-BOT c = sym (formula_key _ _ c.pack-key.ensures ∙ simp (eq-eqb _ _ c.if-key-eq-BOT.true))
+pub returns-in-24407906 : goal.returns-in-24407906
+returns-in-24407906 c = sym (formula_key _ _ c.pack.ensures ∙ simp c.in-24407906.is)
 
-pub returns-then-key-eq-ATOM : goal.returns-then-key-eq-ATOM
-returns-then-key-eq-ATOM c = sym (formula_key _ _ c.pack-key.ensures ∙ simp (ne_eqb _ _ c.if-key-eq-BOT.false, eq-eqb _ _ c.if-key-eq-ATOM.true))
+pub returns-in-6130988129 : goal.returns-in-6130988129
+returns-in-6130988129 c = sym (formula_key _ _ c.pack.ensures ∙ simp c.in-6130988129.is)
 
-pub returns-then-key-eq-NOT : goal.returns-then-key-eq-NOT
-returns-then-key-eq-NOT c =
+pub returns-in-24407918 : goal.returns-in-24407918
+returns-in-24407918 c = sym (formula_key _ _ c.pack.ensures ∙ simp c.in-24407918.is)
+
+pub returns-in-23359073 : goal.returns-in-23359073
+returns-in-23359073 c = sym (formula_key _ _ c.pack.ensures ∙ simp c.in-23359073.is)
+
+pub returns-in-94831 : goal.returns-in-94831
+returns-in-94831 c = sym (formula_key _ _ c.pack.ensures ∙ simp c.in-94831.is)
+
+pub returns-in-24145257 : goal.returns-in-24145257
+returns-in-24145257 c = sym (formula_key _ _ c.pack.ensures ∙ simp c.in-24145257.is)
+
+-- none of the keys
+pub returns-in_default : goal.returns-in_default
+returns-in_default c =
     sym (
-    formula_key _ _ c.pack-key.ensures
-    ∙ simp (ne_eqb _ _ c.if-key-eq-BOT.false, ne_eqb _ _ c.if-key-eq-ATOM.false, eq-eqb _ _ c.if-key-eq-NOT.true))
-
-pub returns-then-key-eq-AND : goal.returns-then-key-eq-AND
-returns-then-key-eq-AND c =
-    sym (
-    formula_key _ _ c.pack-key.ensures
-    ∙ simp (ne_eqb _ _ c.if-key-eq-BOT.false, ne_eqb _ _ c.if-key-eq-ATOM.false, ne_eqb _ _ c.if-key-eq-NOT.false, eq-eqb _ _ c.if-key-eq-AND.true))
-
-pub returns-then-key-eq-OR : goal.returns-then-key-eq-OR
-returns-then-key-eq-OR c =
-    sym (
-    formula_key _ _ c.pack-key.ensures
+    formula_key _ _ c.pack.ensures
     ∙ simp (
-      ne_eqb _ _ c.if-key-eq-BOT.false,
-      ne_eqb _ _ c.if-key-eq-ATOM.false,
-      ne_eqb _ _ c.if-key-eq-NOT.false,
-      ne_eqb _ _ c.if-key-eq-AND.false,
-      eq-eqb _ _ c.if-key-eq-OR.true,
-    ))
-
-pub returns-then-key-eq-IMP : goal.returns-then-key-eq-IMP
-returns-then-key-eq-IMP c =
-    sym (
-    formula_key _ _ c.pack-key.ensures
-    ∙ simp (
-      ne_eqb _ _ c.if-key-eq-BOT.false,
-      ne_eqb _ _ c.if-key-eq-ATOM.false,
-      ne_eqb _ _ c.if-key-eq-NOT.false,
-      ne_eqb _ _ c.if-key-eq-AND.false,
-      ne_eqb _ _ c.if-key-eq-OR.false,
-      eq-eqb _ _ c.if-key-eq-IMP.true,
-    ))
-
-pub returns : goal.returns
-returns c =
-    sym (
-    formula_key _ _ c.pack-key.ensures
-    ∙ simp (
-      ne_eqb _ _ c.if-key-eq-BOT.false,
-      ne_eqb _ _ c.if-key-eq-ATOM.false,
-      ne_eqb _ _ c.if-key-eq-NOT.false,
-      ne_eqb _ _ c.if-key-eq-AND.false,
-      ne_eqb _ _ c.if-key-eq-OR.false,
-      ne_eqb _ _ c.if-key-eq-IMP.false,
+      ne_eqb _ 24407906 (λ (h : c.pack.result ≡ 24407906). omega arith),
+      ne_eqb _ 6130988129 (λ (h : c.pack.result ≡ 6130988129). omega arith),
+      ne_eqb _ 24407918 (λ (h : c.pack.result ≡ 24407918). omega arith),
+      ne_eqb _ 23359073 (λ (h : c.pack.result ≡ 23359073). omega arith),
+      ne_eqb _ 94831 (λ (h : c.pack.result ≡ 94831). omega arith),
+      ne_eqb _ 24145257 (λ (h : c.pack.result ≡ 24145257). omega arith),
     ))

@@ -1,37 +1,36 @@
-use mathlib.Core.Path.{sym, ap₂, ◌∙◌}
-use Prim.Native.Nat.{◌+◌, ◌-◌, ◌*◌, ◌^◌, ◌<◌}
+use mathlib.Core.Path.{refl, ap₂, ◌∙◌}
+use mathlib.Core.List.{[], ◌∷◌, append-nil}
+use Prim.Native.Nat.{◌+◌, ◌*◌, ◌^◌, ◌<◌}
 use native.Mathlib.Omega.{arith}
-use borrow.Author.Rules.{rules}
-use Rattle.keywords.proofs.WordLaws.{key_none, key_step, key_room, key_done, no_key}
+use Rattle.keywords.specs.Words.{key_of}
+use Rattle.keywords.proofs.WordLaws.{key_more, key_room, key_done, no_key}
 use Rattle.keywords.proofs.pack.Goals as goal
-use Rattle.keywords.proofs.pack.Goals.{In-loop-at}
+use Rattle.keywords.proofs.pack.Goals.{In-Some}
 
 -- the key of six bytes at most, with room for one more
-room : (c : In-loop-at) → c.loop-at.key < 2 * 256 ^ 6
+room : (c : In-Some) → c.loop-b.key < 2 * 256 ^ 6
 room c =
-    let inv = c.loop-at.invariant in
-    rw inv.1 (key_room _ _ (λ i. (c.type_inv.field i).fits) c.loop-at-test.true inv.0 c.if-field-gt7.false)
+    let inv = c.loop-b.invariant in
+    rw inv.2 (key_room _ _ _ _ _ c.in-Some.ensures.steps inv.1 (λ i. (c.type_inv.field i).fits) c.if-field-gt7.false)
 
 pub returns-then-field-gt7 : goal.returns-then-field-gt7
 returns-then-field-gt7 c = no_key _ c.if-field-gt7.true
 
-pub loop-at-init : goal.loop-at-init
-loop-at-init c = (search rules, key_none c.args.field.now)
+pub loop-b-init : goal.loop-b-init
+unfolding key_of
+loop-b-init c = ([], append-nil _ ∙ cc, refl)
 
 pub overflow_mul-key : goal.overflow_mul-key
 overflow_mul-key c = omega (arith, room c)
 
 pub overflow_add-key : goal.overflow_add-key
-overflow_add-key c = omega (arith, room (goal.at.overflow_add-key c).In-loop-at, c.wide64.ensures, c.type_inv.field (c.loop-at.at - 1))
+overflow_add-key c = omega (arith, room (goal.at.overflow_add-key c).In-Some, c.from.ensures)
 
-pub loop-at-preserved : goal.loop-at-preserved
-loop-at-preserved c =
-    let inv = c.loop-at.invariant in (
-      omega arith,
-      sym (
-          key_step _ _ (λ i. (c.type_inv.field i).fits) c.loop-at-test.true inv.0
-          ∙ ap₂ (λ k b. k * 256 + b) (sym inv.1) (sym c.wide64.ensures)),
-    )
+pub loop-b-preserved : goal.loop-b-preserved
+unfolding key_of
+loop-b-preserved c =
+    let inv = c.loop-b.invariant in
+    (c.in-Some.b.now ∷ inv.0, key_more _ _ _ _ _ c.in-Some.ensures.steps inv.1, ap₂ (λ k b. k * 256 + b) inv.2 c.from.ensures)
 
 pub returns : goal.returns
-returns c = key_done _ _ _ (λ i. (c.type_inv.field i).fits) c.loop-at-test.false c.loop-at.invariant.1
+returns c = let inv = c.loop-b.invariant in key_done _ _ _ _ (λ i. (c.type_inv.field i).fits) c.in-None.ensures.steps.0 inv.1 inv.2

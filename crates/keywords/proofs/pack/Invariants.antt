@@ -1,13 +1,8 @@
--- `keywords::pack` meets its contract. The loop's invariant: `key` is that of the bytes from `at` on.
+-- `keywords::pack` meets its contract. The loop's invariant: `key` is that of the bytes behind those that are left.
 -- Assumes nothing.
-use mathlib.Core.Path.{◌≡◌}
-use Prim.Native.Nat.{◌≤◌}
-use lib.ListN.{length, drop}
+use Rattle.std.proofs.Common.{◌≡◌, List, ◌++◌, ℕ}
 use Rattle.keywords.specs.Words.{key_of}
 use Rattle.keywords.proofs.pack.Given as goal
 
-abbrev pub invariant-loop-at : goal.invariant-loop-at
-invariant-loop-at l = (l.at ≤ length l.field) × (l.key ≡ key_of (drop l.at l.field))
-
-abbrev pub decreases-loop-at : goal.decreases-loop-at
-decreases-loop-at l = l.at
+abbrev pub invariant-loop-b : goal.invariant-loop-b
+invariant-loop-b l = (ys : List ℕ) × (l.b-iterator.iter.rest.now ++ ys ≡ l.field) × (l.key ≡ key_of ys)

@@ -1,6 +1,7 @@
 -- `keywords::rule_word` meets its contract: its byte strings hold the words of the rules and their starts, by computation.
 -- Assumes nothing.
-use mathlib.Core.Path.{refl, sym, ◌∙◌}
+use mathlib.Core.Path.{refl, sym, ap, ◌∙◌}
+use Rattle.std.specs.Prelude.{Some}
 use Rattle.keywords.proofs.RuleWordLaws.{words_stand, codes_placed, is_rule, is_no_rule}
 use Rattle.keywords.proofs.rule_word.Goals as goal
 
@@ -15,7 +16,7 @@ is_word-requires c = words_stand _ _ refl refl refl refl
 pub returns-then-is_word : goal.returns-then-is_word
 returns-then-is_word c =
     let candidate = c.candidate-code in
-    is_rule _ candidate.result candidate.ensures (sym c.is_word.ensures ∙ c.if-is_word.true)
+    ap (λ n. Some n) c.from.ensures ∙ is_rule _ candidate.result candidate.ensures (sym c.is_word.ensures ∙ c.if-is_word.true)
 
 pub returns : goal.returns
 returns c =
