@@ -1,14 +1,12 @@
 -- The formula that tables tell is the body's, where they hold the formulas of a good body and the names of its atoms.
-use Prim.Native.Nat.{ℕ, zero, suc, ◌<◌}
+use Prim.Native.Nat.{ℕ, zero, suc, ◌<◌, ◌≤◌}
 use native.Mathlib.Omega.{arith}
-use mathlib.Core.Bool.{Bool, true, false, cond}
 use mathlib.Core.List.{List, []}
-use mathlib.Core.Path.{◌≡◌, refl, sym, ap, ap₂, ◌∙◌}
-use lib.Dec.{leb}
+use mathlib.Core.Path.{◌≡◌, sym, ap, ap₂, ◌∙◌}
 use lib.ListN.{length, get_or}
 use Rattle.format.specs.Text.{Bytes}
 use Rattle.format.specs.File.{Node, Body, formula_of, formulas}
-use Rattle.format.specs.Tables.{node_record, absent}
+use Rattle.format.specs.Tables.{node_record}
 use Rattle.format.proofs.GoodBodies.{good_held, node_at as heldNode}
 use Rattle.format.proofs.Formulas.{decoded_node}
 use Rattle.tables.specs.Records.{record_from}
@@ -19,21 +17,25 @@ use Rattle.words.specs.Told.{Named, atom, neg, conj, disj, imp, named, named_at}
 use Rattle.words.proofs.Nodes.{Earlier, node_earlier}
 use Rattle.writer.specs.Names.{spelling}
 use Rattle.phrases.specs.Formulas.{word_before, formula_by, table_formula}
-use Rattle.phrases.proofs.RecordWords.{word_atom, word_not, word_both}
+use Rattle.std.proofs.lemmas.Bool.Decides.{nat_tests}
 use Rattle.phrases.proofs.TableFormulas.{table_formula_lem}
 
 -- the record of a node
 abbrev record_of : Node → NodeRecord
 record_of n = record_from (node_record n)
 
--- the record of falsum has its word, whatever its parts are
+-- the word of a record whose parts come before it is its own; that of falsum is, whatever its parts are
 word_bot : (i : ℕ) → word_before (record_of Node.bot) i ≡ 0
 unfolding word_before
-word_bot i = either (leb i absent)
-  where
-    either : (ahead : Bool) → ◌≡◌ {A = ℕ} (cond ahead 0 (cond ahead 0 0)) 0
-    either true = refl
-    either false = refl
+word_bot i = grind (arith, nat_tests)
+
+word_not : (i j : ℕ) → j < i → word_before (record_of (Node.not j)) i ≡ 2
+unfolding word_before
+word_not i j h = grind (arith, nat_tests)
+
+word_two : (n : NodeRecord) (i : ℕ) → 2 < n.word → n.word ≤ 5 → n.first < i → n.second < i → word_before n i ≡ n.word
+unfolding word_before
+word_two n i l m f g = grind (arith, nat_tests)
 
 module _ (text : Bytes) (names table : List ℕ) where
   -- the formula of number i in the table
@@ -52,21 +54,20 @@ module _ (text : Bytes) (names table : List ℕ) where
     -- the formula of a node's record is that of the node, where those before it are
     by_node : (i : ℕ) (n : Node) → Earlier b.atoms i n → ((j : ℕ) → j < i → table_at j ≡ body_at j)
         → record_by (record_of n) (word_before (record_of n) i) ≡ named known (formula_of (formulas b.nodes) n)
+    unfolding word_before
     by_node i Node.bot earlier before = ap (record_by (record_of Node.bot)) (word_bot i)
-    by_node i (Node.atom k) earlier before =
-        ap (record_by (record_of (Node.atom k))) (sym (word_atom (record_of (Node.atom k)) i refl)) ∙ ap atom (spelt k earlier)
+    by_node i (Node.atom k) earlier before = ap atom (spelt k earlier)
     by_node i (Node.not j) earlier before =
-        let word = word_not (record_of (Node.not j)) i (λ e. omega arith) (omega arith) earlier refl in
-        ap (record_by (record_of (Node.not j))) (sym word) ∙ ap neg (before j earlier)
+        ap (record_by (record_of (Node.not j))) (word_not i j earlier) ∙ ap neg (before j earlier)
     by_node i (Node.and j k) earlier before =
-        let word = word_both (record_of (Node.and j k)) i (λ e. omega arith) (omega arith) earlier.0 (λ e. omega arith) earlier.1 in
-        ap (record_by (record_of (Node.and j k))) (sym word) ∙ ap₂ conj (before j earlier.0) (before k earlier.1)
+        ap (record_by (record_of (Node.and j k))) (word_two (record_of (Node.and j k)) i (omega arith) (omega arith) earlier.0 earlier.1)
+        ∙ ap₂ conj (before j earlier.0) (before k earlier.1)
     by_node i (Node.or j k) earlier before =
-        let word = word_both (record_of (Node.or j k)) i (λ e. omega arith) (omega arith) earlier.0 (λ e. omega arith) earlier.1 in
-        ap (record_by (record_of (Node.or j k))) (sym word) ∙ ap₂ disj (before j earlier.0) (before k earlier.1)
+        ap (record_by (record_of (Node.or j k))) (word_two (record_of (Node.or j k)) i (omega arith) (omega arith) earlier.0 earlier.1)
+        ∙ ap₂ disj (before j earlier.0) (before k earlier.1)
     by_node i (Node.imp j k) earlier before =
-        let word = word_both (record_of (Node.imp j k)) i (λ e. omega arith) (omega arith) earlier.0 (λ e. omega arith) earlier.1 in
-        ap (record_by (record_of (Node.imp j k))) (sym word) ∙ ap₂ imp (before j earlier.0) (before k earlier.1)
+        ap (record_by (record_of (Node.imp j k))) (word_two (record_of (Node.imp j k)) i (omega arith) (omega arith) earlier.0 earlier.1)
+        ∙ ap₂ imp (before j earlier.0) (before k earlier.1)
 
     module _ (held : Formulas b table) where
       -- the formulas of all numbers before n

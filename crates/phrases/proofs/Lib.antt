@@ -1,5 +1,4 @@
 -- Laws of the words of formulas, rows and sides, as tables tell them.
-mod RecordWords
 mod TableFormulas
 mod TableRows
 pub mod HeldFormulas

@@ -12,10 +12,7 @@ use Rattle.format.specs.Text.{Bytes, bytes, ◌<$>◌}
 use Rattle.format.specs.Tables.{Side, absent}
 use Rattle.format.specs.Written.{decimal}
 use Rattle.words.specs.Words.{formula_words, items, listing, principal_words, premise_words, empty_side, side_opening}
-use Rattle.words.proofs.Unrolled.{items_first, items_end, listing_none, listing_first, listing_map}
-use Rattle.writer.specs.declared.Written.{Written}
-use Rattle.writer.specs.Writing.{Writes}
-use Rattle.writer.proofs.Writing.{writes_as, writes_then, writes_nothing}
+use Rattle.words.proofs.Unrolled.{items_first, items_end, listing_none, listing_map}
 use Rattle.phrases.specs.Formulas.{table_formula}
 use Rattle.phrases.specs.Rows.{premises_from, table_principal, table_side}
 
@@ -69,62 +66,40 @@ module _ (first second : ℕ) where
 
 -- ---- a side
 
-module _ (text : Bytes) (names formulas : List ℕ) (numbers : List ℕ) where
+module _ (text : Bytes) (names formulas : List ℕ) where
   abbrev words_of : ℕ → Bytes
   words_of i = formula_words (table_formula text names formulas i)
 
-  -- the words of the formulas from place k on, each after a comma
-  unfoldable pub further : ℕ → Bytes
-  further k = items ", " words_of (drop k numbers)
+  -- the words of formulas, each after a comma
+  unfoldable pub further : List ℕ → Bytes
+  further rest = items ", " words_of rest
 
-  pub further_first : (k i : ℕ) → k < length numbers → i ≡ get_or numbers k 0 → further k ≡ bytes ", " ++ (words_of i ++ further (k + 1))
+  pub further_first : (rest : List ℕ) (k i : ℕ) → k < length rest → i ≡ get_or rest k 0
+      → further (drop k rest) ≡ (bytes ", " ++ words_of i) ++ further (drop (k + 1) rest)
   unfolding further
-  further_first k i h e =
-      items_first ", " words_of numbers k 0 h ∙ ap (λ (j : ℕ). bytes ", " ++ (words_of j ++ items ", " words_of (drop (k + 1) numbers))) (sym e)
+  further_first rest k i h e =
+      items_first ", " words_of rest k 0 h
+      ∙ ap (λ (j : ℕ). bytes ", " ++ (words_of j ++ items ", " words_of (drop (k + 1) rest))) (sym e)
+      ∙ sym (append_assoc (bytes ", ") (words_of i) (items ", " words_of (drop (k + 1) rest)))
 
-  pub further_end : (k : ℕ) → length numbers ≤ k → further k ≡ []
+  pub further_end : (rest : List ℕ) (k : ℕ) → length rest ≤ k → further (drop k rest) ≡ []
   unfolding further
-  further_end k h = items_end ", " words_of numbers k h
-
-  -- the formulas after the first are written up to place i
-  pub record Listed (i : ℕ) (text₀ : Bytes) (w₀ : Written) (text₁ : Bytes) (w₁ : Written) : Type 0 where
-    pub words : Bytes
-    pub writes : Writes words text₀ w₀ text₁ w₁
-    pub rest : words ++ further i ≡ further 1
-
-  pub listed_none : {before text₀ text₁ : Bytes} {w₀ w₁ : Written} → Writes before text₀ w₀ text₁ w₁ → Listed 1 text₁ w₁ text₁ w₁
-  listed_none p = record { words = []; writes = writes_nothing p; rest = refl }
-
-  pub listed_more : {i j : ℕ} {text₀ text₁ text₂ text₃ : Bytes} {w₀ w₁ w₂ w₃ : Written} → Listed i text₀ w₀ text₁ w₁
-      → i < length numbers → j ≡ get_or numbers i 0 → Writes (bytes ", ") text₁ w₁ text₂ w₂ → Writes (words_of j) text₂ w₂ text₃ w₃
-      → Listed (i + 1) text₀ w₀ text₃ w₃
-  listed_more {i} {j} l h e p q =
-      record {
-        words = l.words ++ (bytes ", " ++ words_of j);
-        writes = writes_then l.writes (writes_then p q);
-        rest =
-            append_assoc l.words (bytes ", " ++ words_of j) (further (i + 1))
-            ∙ ap (λ (more : Bytes). l.words ++ more) (sym (further_first i j h e))
-            ∙ l.rest;
-      }
-
-  pub listed_all : {i : ℕ} {text₀ text₁ : Bytes} {w₀ w₁ : Written} → Listed i text₀ w₀ text₁ w₁ → length numbers ≤ i
-      → Writes (further 1) text₀ w₀ text₁ w₁
-  listed_all {i} l h =
-      writes_as (sym l.rest ∙ ap (λ (more : Bytes). l.words ++ more) (further_end i h) ∙ append-nil l.words) l.writes
+  further_end rest k h = items_end ", " words_of rest k h
 
   module _ (kind : Kind) (side : Side) where
-    by_numbers : table_side text names formulas kind side numbers ≡ listing (empty_side kind side) (side_opening kind side) ", " words_of numbers
+    by_numbers : (numbers : List ℕ)
+        → table_side text names formulas kind side numbers ≡ listing (empty_side kind side) (side_opening kind side) ", " words_of numbers
     unfolding table_side
-    by_numbers = listing_map (empty_side kind side) (side_opening kind side) ", " formula_words (table_formula text names formulas) numbers
+    by_numbers numbers = listing_map (empty_side kind side) (side_opening kind side) ", " formula_words (table_formula text names formulas) numbers
 
-    pub side_empty : length numbers ≡ 0 → table_side text names formulas kind side numbers ≡ bytes (empty_side kind side)
-    side_empty e = by_numbers ∙ listing_none (empty_side kind side) (side_opening kind side) ", " words_of numbers e
+    pub side_empty : (numbers : List ℕ) → length numbers ≡ 0 → table_side text names formulas kind side numbers ≡ bytes (empty_side kind side)
+    side_empty numbers e = by_numbers numbers ∙ listing_none (empty_side kind side) (side_opening kind side) ", " words_of numbers e
 
-    pub side_first : (i : ℕ) → 0 < length numbers → i ≡ get_or numbers 0 0
-        → table_side text names formulas kind side numbers ≡ bytes (side_opening kind side) ++ (words_of i ++ further 1)
-    unfolding further
-    side_first i h e =
-        by_numbers
-        ∙ listing_first (empty_side kind side) (side_opening kind side) ", " words_of numbers 0 h
-        ∙ ap (λ (j : ℕ). bytes (side_opening kind side) ++ (words_of j ++ items ", " words_of (drop 1 numbers))) (sym e)
+    -- a first formula, and the others
+    pub side_first : (numbers rest : List ℕ) (x i : ℕ) → numbers ≡ x ∷ rest → i ≡ x
+        → table_side text names formulas kind side numbers ≡ bytes (side_opening kind side) ++ (words_of i ++ further rest)
+    unfolding further listing
+    side_first numbers rest x i e f =
+        by_numbers numbers
+        ∙ ap (listing (empty_side kind side) (side_opening kind side) ", " words_of) e
+        ∙ ap (λ (j : ℕ). bytes (side_opening kind side) ++ (words_of j ++ items ", " words_of rest)) (sym f)

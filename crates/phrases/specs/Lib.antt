@@ -1,2 +1,4 @@
 pub mod Formulas
 pub mod Rows
+pub mod Kinds
+pub mod Sheets

@@ -1,100 +1,82 @@
-// The words of a formula: in full brackets, with the names of its atoms in quotes. Formulas share their parts, so the words of one
-// may be longer than any text: nothing is written once there is no room, and the time is bounded by the room.
+// The words of a formula: in full brackets, with the names of its atoms in quotes. Formulas share their parts, so the words of
+// one may be longer than any text: nothing is written once there is no room, and the time is bounded by the room.
 ghost use Rattle.std.specs.Prelude.{◌≡◌};
 ghost use Rattle.words.specs.Words.{formula_words};
 ghost use Rattle.words.specs.Told.{atom as atomNamed};
-ghost use Rattle.writer.specs.Names.{spelling};
-ghost use Rattle.writer.specs.Writing.{Writes};
-ghost use Rattle.phrases.specs.Formulas.{word_before, bracket_of, connective_of, table_formula};
+ghost use Rattle.writer.specs.Putting.{Puts};
+ghost use Rattle.phrases.specs.Formulas.{word_before, bracket_of, connective_of};
+ghost use Rattle.phrases.specs.Sheets.{name_in, formula_in};
 
-use tables::records::{NodeRecord, node, wide};
-use writer::names::put_name;
-use writer::{Written, put};
+use crate::Sheet;
+use tables::records::{AND, ATOM, BOT, IMP, NOT, NodeRecord, OR, node};
+use writer::Writer;
 
-// The word of a record whose parts are formulas before i; 0, as for falsum, where it has another part or there is no such word.
+// The word of a record whose parts are formulas before i; falsum, where it has another part or there is no such word.
 fn word_before(n: NodeRecord, i: usize) -> u16
     ensures { result ≡ word_before n i }
 {
-    if n.word == 1 {
-        return 1;
+    let first_before = usize::from(n.first) < i;
+    let second_before = usize::from(n.second) < i;
+    match n.word {
+        ATOM => ATOM,
+        NOT if first_before => NOT,
+        AND | OR | IMP if first_before && second_before => n.word,
+        _ => BOT,
     }
-    if n.word > 5 {
-        return 0;
-    }
-    if wide(n.first) >= i {
-        return 0;
-    }
-    if n.word == 2 {
-        return 2;
-    }
-    if wide(n.second) >= i {
-        return 0;
-    }
-    n.word
-}
-
-fn put_atom(text: &[u8], names: &[u16], atom: usize, out: &mut [u8], so_far: Written) -> Written
-    ensures { Writes (formula_words (atomNamed (spelling text.now names.now atom)))
-        out.old so_far out.new result }
-{
-    let opened = put(b"\"", out, so_far);
-    let named = put_name(text, names, atom, out, opened);
-    put(b"\"", out, named)
 }
 
 // The bracket before a formula of two parts, with the word before the first part.
-fn put_bracket(word: u16, out: &mut [u8], so_far: Written) -> Written
-    ensures { Writes (bracket_of word) out.old so_far out.new result }
+fn bracket(word: u16) -> &'static [u8]
+    ensures { result.now ≡ bracket_of word }
 {
-    if word == 5 {
-        return put(b"(if ", out, so_far);
+    match word {
+        IMP => b"(if ",
+        _ => b"(",
     }
-    put(b"(", out, so_far)
 }
 
 // The word between its parts.
-fn put_connective(word: u16, out: &mut [u8], so_far: Written) -> Written
-    ensures { Writes (connective_of word) out.old so_far out.new result }
+fn connective(word: u16) -> &'static [u8]
+    ensures { result.now ≡ connective_of word }
 {
-    if word == 3 {
-        return put(b" and ", out, so_far);
+    match word {
+        AND => b" and ",
+        OR => b" or ",
+        _ => b" then ",
     }
-    if word == 4 {
-        return put(b" or ", out, so_far);
-    }
-    put(b" then ", out, so_far)
 }
 
-pub(crate) fn put_formula(
-    text: &[u8],
-    names: &[u16],
-    formulas: &[u16],
-    i: usize,
-    out: &mut [u8],
-    so_far: Written,
-) -> Written
-    ensures { Writes (formula_words (table_formula text.now names.now formulas.now i))
-        out.old so_far out.new result }
-{
-    let Written::To(_) = so_far else {
-        return Written::NoRoom;
-    };
-    let n = node(formulas, i);
-    let word = word_before(n, i);
-    let first = wide(n.first);
-    if word == 0 {
-        return put(b"contradiction", out, so_far);
+impl<'a> Sheet<'a> {
+    fn put_atom(self, atom: usize, out: &mut Writer)
+        ensures { Puts (formula_words (atomNamed (name_in self.entry atom))) out.old out.new }
+    {
+        out.put(b"\"");
+        out.put_name(self.text, self.names, atom);
+        out.put(b"\"");
     }
-    if word == 1 {
-        return put_atom(text, names, first, out, so_far);
+
+    pub(crate) fn put_formula(self, i: usize, out: &mut Writer)
+        ensures { Puts (formula_words (formula_in self.entry i)) out.old out.new }
+    {
+        if out.end().is_none() {
+            return;
+        }
+        let n = node(self.formulas, i);
+        let first = usize::from(n.first);
+        match word_before(n, i) {
+            BOT => out.put(b"contradiction"),
+            ATOM => self.put_atom(first, out),
+            NOT => {
+                out.put(b"not ");
+                self.put_formula(first, out);
+            }
+            word => {
+                out.put(bracket(word));
+                self.put_formula(first, out);
+                out.put(connective(word));
+                self.put_formula(usize::from(n.second), out);
+                out.put(b")");
+            }
+        }
     }
-    if word == 2 {
-        let negated = put(b"not ", out, so_far);
-        return put_formula(text, names, formulas, first, out, negated);
-    }
-    let opened = put_bracket(word, out, so_far);
-    let begun = put_formula(text, names, formulas, first, out, opened);
-    let parted = put_connective(word, out, begun);
-    let both = put_formula(text, names, formulas, wide(n.second), out, parted);
-    put(b")", out, both)
 }

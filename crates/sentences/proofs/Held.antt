@@ -211,7 +211,7 @@ module _ {text : Bytes} {f : File} {names formulas table left right : List ℕ} 
         ap₂ (λ (p : Option Named) (ps : List ℕ). joined (principal_words p ∷ bytes "; " ∷ premise_words ps ∷ bytes "; " ∷ []))
         (principal_told r.principal own.about) (premises_told r.premises own.few own.present_premises)
 
-    sequent_told : sequent_words text names formulas table left right (elk_rule (code_of r.rule)) n ≡ joined sequent
+    sequent_told : sequent_words text names formulas table left right (kind_by (elk_rule (code_of r.rule))) n ≡ joined sequent
     unfolding sequent_words
     sequent_told =
         let row = (good_held held.good).rows r in_rows in

@@ -1,5 +1,6 @@
 -- The sentence of a row as tables tell it, whatever they hold. Where they hold a file it is that of the file's row (proofs/Held).
 use Rattle.std.specs.Prelude.{ℕ, zero, suc, ◌+◌, Bool, List, [], ◌∷◌, ◌++◌, eqb}
+use Rattle.elk.specs.Sequent.{Kind}
 use Rattle.format.specs.Text.{Bytes, bytes}
 use Rattle.format.specs.Tables.{Side, row_at, fetched}
 use Rattle.format.specs.Written.{decimal}
@@ -26,15 +27,15 @@ module _ (text : Bytes) (names formulas : List ℕ) where
 
   module _ (rows left right : List ℕ) where
     -- both sides
-    unfoldable pub sequent_words : Bool → ℕ → Bytes
-    sequent_words elk row =
+    unfoldable pub sequent_words : Kind → ℕ → Bytes
+    sequent_words kind row =
         joined (
-        table_side text names formulas (kind_by elk) Side.left (fetched rows left right Side.left row) ∷ bytes "; "
-        ∷ table_side text names formulas (kind_by elk) Side.right (fetched rows left right Side.right row) ∷ bytes ".\n" ∷ [])
+        table_side text names formulas kind Side.left (fetched rows left right Side.left row) ∷ bytes "; "
+        ∷ table_side text names formulas kind Side.right (fetched rows left right Side.right row) ∷ bytes ".\n" ∷ [])
 
     -- the sentence of a row with this record
     abbrev pub sentence_by : ℕ → RowRecord → Bytes
-    sentence_by row r = heading_words row r.rule ++ (ground_words r.principal r.first r.second ++ sequent_words (elk_rule r.rule) row)
+    sentence_by row r = heading_words row r.rule ++ (ground_words r.principal r.first r.second ++ sequent_words (kind_by (elk_rule r.rule)) row)
 
     -- the sentence of a row
     unfoldable pub table_sentence : ℕ → Bytes

@@ -1,4 +1,3 @@
 pub mod Writing
 mod Decimals
-mod Zeros
 pub mod Spelled

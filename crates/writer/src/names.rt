@@ -2,36 +2,34 @@
 ghost use Rattle.std.specs.Prelude.{◌≡◌};
 ghost use Rattle.format.specs.Tables.{part};
 ghost use Rattle.writer.specs.Names.{spelling};
-ghost use Rattle.writer.specs.Writing.{Writes};
+ghost use Rattle.writer.specs.Putting.{Puts};
 
-use crate::{Written, put};
+use crate::Writer;
 use counts::limits::NAME_WIDTH;
-use tables::records::wide;
 
 // The part of the text at a place, empty where it does not lie inside.
 fn piece(text: &[u8], start: u16, len: u16) -> &[u8]
     ensures { result.now ≡ part text.now start len }
 {
-    let from = wide(start);
-    let to = from + wide(len);
-    if to > text.len() {
-        return &text[0..0];
-    }
-    &text[from..to]
+    let from = usize::from(start);
+    let to = from + usize::from(len);
+    text.get(from..to).unwrap_or(&[])
 }
 
 fn name<'a>(text: &'a [u8], names: &[u16], atom: usize) -> &'a [u8]
     ensures { result.now ≡ spelling text.now names.now atom }
 {
     if atom >= names.len() / NAME_WIDTH {
-        return &text[0..0];
+        return &[];
     }
     let at = NAME_WIDTH * atom;
     piece(text, names[at], names[at + 1])
 }
 
-pub fn put_name(text: &[u8], names: &[u16], atom: usize, out: &mut [u8], so_far: Written) -> Written
-    ensures { Writes (spelling text.now names.now atom) out.old so_far out.new result }
-{
-    put(name(text, names, atom), out, so_far)
+impl<'a> Writer<'a> {
+    pub fn put_name(&mut self, text: &[u8], names: &[u16], atom: usize)
+        ensures { Puts (spelling text.now names.now atom) self.old self.new }
+    {
+        self.put(name(text, names, atom));
+    }
 }

@@ -1,2 +1,0 @@
--- Laws of the phrases end to end.
-mod EndToEnd

@@ -1,4 +1,0 @@
-use Rattle.phrases.proofs.formulas.+put_formula.Given as goal
-
-abbrev pub decreases-put_formula : goal.decreases-put_formula
-decreases-put_formula l = l.i

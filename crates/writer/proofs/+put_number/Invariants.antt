@@ -1,5 +1,0 @@
-use Rattle.writer.proofs.+put_number.Given as goal
-
--- the number, which loses its last digit
-abbrev pub decreases-put_number : goal.decreases-put_number
-decreases-put_number l = l.n
