@@ -1,30 +1,44 @@
 -- The answer after the run over a text's complete lines, and what an answer says of the text.
-use Rattle.std.specs.Prelude.{ℕ, ◌≡◌, Bool, true, false, List, eqb, ltb}
+use Rattle.std.specs.Prelude
+use Rattle.std.specs.Prelude.{ℕ, ◌≡◌, Bool, true, false, List, eqb, ltb, Some, None, Result, Ok, Err}
 use Rattle.format.specs.Text.{Bytes}
 use Rattle.format.specs.File.{File, no_file, claimed}
 use Rattle.format.specs.Tables.{Contents, Lent, padded}
 use Rattle.format.specs.Good.{Good}
 use Rattle.format.specs.Tests.{rank}
 use Rattle.format.specs.Judged.{accepted, turned_down, next, top, beginning, answer_from}
-use Rattle.parts.specs.Refusals.{bad_line}
+use Rattle.refusals.specs.Refusals.{number_of}
+use Rattle.refusals.specs.declared.Refusal.TheVariants.{BadLine, NoClaim}
 use Rattle.state.specs.State.{Memory, Stored}
 use Rattle.state.specs.declared.State.{State}
+use Rattle.state.specs.declared.Refused.{Refused}
 use Rattle.run.specs.declared.Ran.{Ran}
+use Rattle.run.specs.declared.Stopped.{Stopped}
 use Rattle.answers.specs.declared.Answer.{Answer}
+use Rattle.answers.specs.declared.Accepted.{Accepted}
 
 abbrev pub answer : ℕ → ℕ → Answer
 answer number line = record { number = number; line = line }
 
--- by whether all complete lines passed, bytes are left after them, and a claim was made
-abbrev pub answer_by : Bool → Bool → Bool → Ran → Answer
-answer_by false more made ran = answer ran.number ran.line
-answer_by true true made ran = answer bad_line ran.line
-answer_by true false false ran = answer 13 ran.line
-answer_by true false true ran = answer 0 ran.state.claim
+-- the answer of a refusal
+abbrev pub refusing : Refused → Answer
+refusing r = answer (number_of r.refusal) r.line
+
+-- the claim's line and the counts, or a refusal on the line after the last one where there is no claim
+abbrev pub claimed_or_none : Prelude.Option ℕ → Ran → Result Accepted Refused
+claimed_or_none None ran = Err (record { refusal = NoClaim; line = ran.line })
+claimed_or_none (Some line) ran = Ok (record { line = line; counts = ran.state.counts })
+
+-- by whether bytes are left after the complete lines, and a claim was made
+abbrev pub answer_by : Bool → Bool → Ran → Result Accepted Refused
+answer_by true made ran = Err (record { refusal = BadLine; line = ran.line })
+answer_by false false ran = claimed_or_none None ran
+answer_by false true ran = claimed_or_none ran.state.claim ran
 
 -- after the complete lines of a text of this length
-unfoldable pub finished : ℕ → Ran → Answer
-finished len ran = answer_by (eqb ran.number 0) (ltb ran.at len) (eqb ran.state.stage (rank claimed)) ran
+unfoldable pub finished : ℕ → Result Ran Stopped → Result Accepted Refused
+finished len (Err s) = Err s.refused
+finished len (Ok ran) = answer_by (ltb ran.at len) (eqb ran.state.stage (rank claimed)) ran
 
 -- tables of these lengths that hold these contents, and zeros after them
 abbrev pub filled : Lent → Contents → Contents
@@ -38,16 +52,16 @@ filled lent c =
     }
 
 -- the run over all lines of a text accepts it: the tables and the state hold its file
-pub record Accepts (text : Bytes) (s : State) (t : Memory) (answer : Answer) : Type 0 where
-  pub number : answer.number ≡ 0
-  pub line : answer_from top text no_file ≡ accepted answer.line
+pub record Accepts (text : Bytes) (a : Accepted) (t : Memory) : Type 0 where
+  pub line : answer_from top text no_file ≡ accepted a.line
   pub file : File
   pub is_file : beginning text ≡ next file
   pub lines : List Bytes
   pub good : Good lines file
-  pub stored : Stored text file s t
+  pub state : State
+  pub stored : Stored text file state t
+  pub counts : a.counts ≡ state.counts
 
--- or it refuses it, with a number that is not 0
-pub record Refuses (text : Bytes) (answer : Answer) : Type 0 where
-  pub number : answer.number ≡ 0 → ⊥
-  pub line : answer_from top text no_file ≡ turned_down answer.number answer.line
+-- or it refuses it
+abbrev pub Refuses : Bytes → Refused → Type 0
+Refuses text r = answer_from top text no_file ≡ turned_down (number_of r.refusal) r.line

@@ -1,9 +1,9 @@
 -- The tests that a row has to pass before its rule is asked, by the row as it was read and the counts of what is held.
-use Rattle.std.specs.Prelude.{ℕ, zero, suc, Bool, false, not, ◌||◌, List, [], ◌∷◌, ltb, leb}
+use Rattle.std.specs.Prelude
+use Rattle.std.specs.Prelude.{ℕ, zero, suc, Bool, false, not, ◌||◌, List, [], ◌∷◌, ltb, leb, Some, None}
 use Rattle.std.proofs.Math.Option.{Option, none, some}
 use Rattle.format.specs.Tables.{most_on_side}
 use Rattle.format.specs.Tests.{Test, ◌when◌}
-use Rattle.text.specs.declared.numbers.Optional.{Optional}
 use Rattle.text.specs.declared.lists.Listed.{Listed}
 use Rattle.counts.specs.Counts.{full_for}
 use Rattle.counts.specs.declared.Counts.{Counts}
@@ -13,10 +13,9 @@ use Rattle.drafts.specs.declared.Draft.{Draft}
 abbrev pub past_of : Listed → ℕ → Bool
 past_of list held = ltb held list.above
 
-abbrev pub ahead_of : Optional → ℕ → Bool
-ahead_of Optional.Absent held = false
-ahead_of (Optional.Value i) held = leb held i
-ahead_of Optional.Bad held = false
+abbrev pub ahead_of : Prelude.Option ℕ → ℕ → Bool
+ahead_of None held = false
+ahead_of (Some i) held = leb held i
 
 -- not strictly rising, or too many
 abbrev pub bad_of : Listed → Bool

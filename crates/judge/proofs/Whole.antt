@@ -1,11 +1,11 @@
 -- The whole answer: by the lengths of the tables and the text, and then by the run over its lines.
 use Prim.Native.Nat.{ℕ, ◌*◌, ◌≤◌, ◌<◌}
+use Rattle.std.specs.Prelude.{Result, Ok, Err, is_err}
 use native.Mathlib.Nat.{sub-zero}
 use native.Mathlib.Omega.{arith}
 use mathlib.Core.Path.{◌≡◌, refl, sym, ap, ap₂, subst, ◌∙◌}
 use mathlib.Core.Bool.{Bool, true, false, ◌||◌}
 use mathlib.Core.List.{List, [], ◌∷◌}
-use mathlib.Core.Logic.{◌⊎◌, inl, inr, ⊎_elim}
 use mathlib.Core.Option.{Option, none, some}
 use lib.Dec.{ltb}
 use lib.ListN.{length, replicate, length-replicate}
@@ -18,17 +18,19 @@ use Rattle.format.specs.Judged.{Ruling, accepted, turned_down, number_in, line_i
 use Rattle.format.proofs.Booleans.{or_false}
 use Rattle.format.proofs.Stepping.{first_applies, first_passes}
 use Rattle.format.proofs.Accepted.{accepted_holds, accepted_shown}
-use Rattle.counts.specs.Counts.{no_counts}
-use Rattle.counts.specs.declared.Counts.{Counts}
+use Rattle.refusals.specs.Refusals.{number_of}
+use Rattle.refusals.specs.declared.Refusal.TheVariants.{TooLong}
+use Rattle.refusals.proofs.OneNumber.{number_of-some}
 use Rattle.state.specs.State.{Full, Memory}
-use Rattle.state.specs.declared.State.{State}
+use Rattle.state.specs.declared.Refused.{Refused}
 use Rattle.run.specs.Lent.{five, five_of, lengths, clear, Zeros}
 use Rattle.run.specs.Running.{Fresh, RunOver}
 use Rattle.run.specs.declared.Ran.{Ran}
+use Rattle.run.specs.declared.Stopped.{Stopped}
 use Rattle.answers.specs.Answers.{finished, filled, Accepts}
-use Rattle.answers.specs.declared.Answer.{Answer}
-use Rattle.answers.proofs.Ends.{ends}
-use Rattle.judge.specs.Contract.{Judges, Filed, JudgesFile}
+use Rattle.answers.specs.declared.Accepted.{Accepted}
+use Rattle.answers.proofs.Ends.{Ends, ends}
+use Rattle.judge.specs.Contract.{judged_by, JudgesFile}
 use Rattle.judge.specs.declared.Judged.{Judged}
 
 -- clear tables hold no file
@@ -66,66 +68,76 @@ module _ (text : Bytes) (lent : Lent) where
   unfolding contents
   contents_by a e = ap (λ (b : Ruling). held_by b (beginning text)) e
 
-  module _ (t : Contents) (answer : Answer) where
-    -- a refusal that left every table clear
-    pub judges_cleared : judged lent text ≡ turned_down answer.number answer.line → (answer.number ≡ 0 → ⊥) → t ≡ clear lent
-        → Judges text lent t answer
-    judges_cleared e refusal cleared =
-        record {
-          number = sym (ap number_in e);
-          line = sym (ap line_in e);
-          tables = cleared ∙ nothing_held lent ∙ ap (filled lent) (sym (contents_by (turned_down answer.number answer.line) e));
-          claim_holds = λ z. absurd (refusal z);
-          claim_shown = λ z. absurd (refusal z);
-        }
-
-    -- the same, with no counts
-    pub cleared_file : {counts : Counts} → judged lent text ≡ turned_down answer.number answer.line → (answer.number ≡ 0 → ⊥)
-        → t ≡ clear lent → counts ≡ no_counts → JudgesFile text lent t (record { answer = answer; counts = counts })
-    cleared_file e refusal cleared empty =
-        record {
-          judges = judges_cleared e refusal cleared;
-          accepts = λ z. absurd (refusal z);
-          filed = λ z. absurd (refusal z);
-          none_filed = λ _. empty;
-        }
+  -- a refusal that left every table clear
+  pub judges_cleared : {t : Contents} (r : Refused) → judged lent text ≡ turned_down (number_of r.refusal) r.line → t ≡ clear lent
+      → JudgesFile text lent t (judged_by (Err r))
+  judges_cleared {t} r e cleared =
+      record {
+        judges =
+            record {
+              number = sym (ap number_in e);
+              line = sym (ap line_in e);
+              tables = cleared ∙ nothing_held lent ∙ ap (filled lent) (sym (contents_by (turned_down (number_of r.refusal) r.line) e));
+              claim_holds = λ z. absurd (number_of-some r.refusal z);
+              claim_shown = λ z. absurd (number_of-some r.refusal z);
+            };
+        accepts = λ z. absurd (number_of-some r.refusal z);
+        filed = λ z. absurd (number_of-some r.refusal z);
+        none_filed = λ _. refl;
+      }
 
   -- an acceptance, with the tables that the run left
-  module _ {s : State} {t : Memory} {answer : Answer} (a : Accepts text s t answer) where
-    holds : five_of t ≡ filled (lengths (five_of t)) (encode a.file)
-    holds = let stored = a.stored in λ i. five (stored.names i) (stored.formulas i) (stored.rows i) (stored.left i) (stored.right i)
+  pub judges_accepted : {t : Memory} {a : Accepted} → judged lent text ≡ answer_from top text no_file → lengths (five_of t) ≡ lent
+      → Accepts text a t → JudgesFile text lent (five_of t) (judged_by (Ok a))
+  judges_accepted {t} {a} read same accepts =
+      record {
+        judges =
+            record {
+              number = sym (ap number_in whole);
+              line = sym (ap line_in whole);
+              tables = holds ∙ ap₂ filled same (sym (contents_by (accepted a.line) whole ∙ ap (held_by (accepted a.line)) accepts.is_file));
+              claim_holds = λ z bad. accepted_holds lent text a.line whole bad;
+              claim_shown = λ z. accepted_shown lent text a.line whole;
+            };
+        accepts = λ _. whole;
+        filed =
+            λ _.
+            record {
+              file = accepts.file;
+              is_file = accepts.is_file;
+              good = accepts.good.body;
+              named = accepts.good.names;
+              names_in = accepts.stored.names_in;
+              holds = holds;
+              counted = accepts.counts ∙ accepts.stored.counts;
+            };
+        none_filed = λ n. absurd (n refl);
+      }
+    where
+      whole : judged lent text ≡ accepted a.line
+      whole = read ∙ accepts.line
 
-    accepted_file : Filed text (five_of t) s.counts
-    accepted_file =
-        record {
-          file = a.file;
-          is_file = a.is_file;
-          good = a.good.body;
-          named = a.good.names;
-          names_in = a.stored.names_in;
-          holds = holds;
-          counted = a.stored.counts;
-        }
+      holds : five_of t ≡ filled (lengths (five_of t)) (encode accepts.file)
+      holds = let stored = accepts.stored in λ i. five (stored.names i) (stored.formulas i) (stored.rows i) (stored.left i) (stored.right i)
 
-    judges_accepted : judged lent text ≡ answer_from top text no_file → lengths (five_of t) ≡ lent → Judges text lent (five_of t) answer
-    judges_accepted e same =
-        record {
-          number = a.number ∙ sym (ap number_in whole);
-          line = sym (ap line_in whole);
-          tables = holds ∙ ap₂ filled same (sym held);
-          claim_holds = λ z bad. accepted_holds lent text answer.line whole bad;
-          claim_shown = λ z. accepted_shown lent text answer.line whole;
-        }
-      where
-        whole : judged lent text ≡ accepted answer.line
-        whole = e ∙ a.line
+-- the tables after the end of a text: as the run left them, and cleared where it is refused
+left_by : Result Accepted Refused → Contents → Contents
+left_by (Ok a) t = t
+left_by (Err e) t = clear (lengths t)
 
-        held : contents lent text ≡ encode a.file
-        held = contents_by (accepted answer.line) whole ∙ ap (held_by (accepted answer.line)) a.is_file
+left_kept : (end : Result Accepted Refused) (t : Contents) → is_err end ≡ false → left_by end t ≡ t
+unfolding left_by
+left_kept (Ok a) t e = refl
+left_kept (Err x) t e = cc
 
--- the run over a text in fresh tables, and the answer after it
-module _ {text : Bytes} {ran : Ran} {before after : Memory} {answer : Answer} (enough : too_short (lengths (five_of before)) ≡ false)
-    (fresh : Fresh before) (over : RunOver text ran before after) (made : answer ≡ finished (length text) ran) where
+left_clear : (end : Result Accepted Refused) (t : Contents) → is_err end ≡ true → left_by end t ≡ clear (lengths t)
+unfolding left_by
+left_clear (Ok a) t e = cc
+left_clear (Err x) t e = refl
+
+-- the run over a text in fresh tables, and what it ends with
+module _ {text : Bytes} {ran : Result Ran Stopped} {before after : Memory} (enough : too_short (lengths (five_of before)) ≡ false)
+    (fresh : Fresh before) (over : RunOver text ran before after) where
   lent : Lent
   lent = lengths (five_of before)
 
@@ -135,49 +147,43 @@ module _ {text : Bytes} {ran : Ran} {before after : Memory} {answer : Answer} (e
       let kept = over.lengths in
       λ i. record { names = kept.names i; formulas = kept.formulas i; rows = kept.rows i; left = kept.left i; right = kept.right i }
 
-  -- what the definition says, by the two kinds of answer
-  Accepted : Answer → Type 0
-  Accepted a = (judged lent text ≡ answer_from top text no_file) × Accepts text ran.state after a
+  -- what the definition says of an end
+  abbrev Judging : Result Accepted Refused → Type 0
+  Judging end = JudgesFile text (lengths (five_of before)) (left_by end (five_of after)) (judged_by end)
 
-  Refused : Answer → Type 0
-  Refused a = (judged lent text ≡ turned_down a.number a.line) × (a.number ≡ 0 → ⊥)
+  turned : (e : Refused) → judged lent text ≡ turned_down (number_of e.refusal) e.line → Judging (Err e)
+  unfolding lent left_by
+  turned e is = judges_cleared text lent e is (ap clear same)
+
+  ended : (end : Result Accepted Refused) → judged lent text ≡ answer_from top text no_file → Ends text after end → Judging end
+  unfolding lent left_by
+  ended (Ok a) read accepts = judges_accepted text lent read same accepts
+  ended (Err e) read refuses = turned e (read ∙ refuses)
 
   -- a text that is too long is refused by the run, any other by its lines
-  either : Accepted answer ⊎ Refused answer
-  unfolding lent Accepted Refused finished
-  either = subst (λ (a : Answer). Accepted a ⊎ Refused a) (sym made) (by_length (ltb most_bytes (length text)) refl)
+  judges_end : (end : Result Accepted Refused) → end ≡ finished (length text) ran → Judging end
+  unfolding lent finished
+  judges_end end made = subst Judging (sym made) (by_length (ltb most_bytes (length text)) refl)
     where
-      by_length : (long : Bool) → ltb most_bytes (length text) ≡ long → Accepted (finished (length text) ran) ⊎ Refused (finished (length text) ran)
+      by_length : (long : Bool) → ltb most_bytes (length text) ≡ long → Judging (finished (length text) ran)
       by_length true e =
           let long = ltb-true most_bytes (length text) e in
-          subst (λ (r : Ran). Accepted (finished (length text) r) ⊎ Refused (finished (length text) r)) (sym (over.too_long long).0)
-          (inr (judged_long text lent enough long, λ z. omega (arith, z)))
+          subst (λ (r : Result Ran Stopped). Judging (finished (length text) r)) (sym (over.too_long long).0)
+          (turned (record { refusal = TooLong; line = 0 }) (judged_long text lent enough long))
       by_length false e =
           let few = ltb-false most_bytes (length text) e in
-          let read = judged_read text lent enough few in
-          ⊎_elim (λ a. inl (read, a)) (λ r. inr (read ∙ r.line, r.number)) (ends text ran after (over.runs few fresh))
+          ended (finished (length text) ran) (judged_read text lent enough few) (ends text after ran (over.runs few fresh))
 
-  -- number 0: the tables stay as the run left them
-  pub judges_kept : answer.number ≡ 0
-      → JudgesFile text (lengths (five_of before)) (five_of after) (record { answer = answer; counts = ran.state.counts })
-  unfolding lent Accepted Refused
-  judges_kept e = ⊎_elim kept (λ r. absurd (r.1 e)) either
-    where
-      kept : Accepted answer → JudgesFile text (lengths (five_of before)) (five_of after) (record { answer = answer; counts = ran.state.counts })
-      kept a =
-          record {
-            judges = judges_accepted text (lengths (five_of before)) a.1 a.0 same;
-            accepts = λ _. a.0 ∙ a.1.line;
-            filed = λ _. accepted_file text (lengths (five_of before)) a.1;
-            none_filed = λ n. absurd (n e);
-          }
+  -- where the text is refused the tables have been cleared, and else they are as the run left them
+  module _ {end : Result Accepted Refused} {t : Contents} {judged : Judged} (made : end ≡ finished (length text) ran) (given : judged ≡ judged_by end) where
+    by_tables : left_by end (five_of after) ≡ t → JudgesFile text (lengths (five_of before)) t judged
+    by_tables e = subst (JudgesFile text (lengths (five_of before)) t) (sym given) (subst (λ (u : Contents). JudgesFile text (lengths (five_of before)) u (judged_by end)) e (judges_end end made))
 
-  -- another number: they have been cleared
-  pub judges_again_clear : {t : Contents} {counts : Counts} → (answer.number ≡ 0 → ⊥) → t ≡ clear (lengths (five_of after)) → counts ≡ no_counts
-      → JudgesFile text (lengths (five_of before)) t (record { answer = answer; counts = counts })
-  unfolding lent Accepted Refused
-  judges_again_clear {t} n cleared empty =
-      ⊎_elim (λ a. absurd (n a.1.number)) (λ r. cleared_file text (lengths (five_of before)) t answer r.0 n (cleared ∙ ap clear same) empty) either
+    pub judges_kept : is_err end ≡ false → t ≡ five_of after → JudgesFile text (lengths (five_of before)) t judged
+    judges_kept passed e = by_tables (left_kept end (five_of after) passed ∙ sym e)
+
+    pub judges_again_clear : is_err end ≡ true → t ≡ clear (lengths (five_of after)) → JudgesFile text (lengths (five_of before)) t judged
+    judges_again_clear failed e = by_tables (left_clear end (five_of after) failed ∙ sym e)
 
 -- the same promise by equal lengths
 pub judges_same : {text : Bytes} {lent lent' : Lent} {t : Contents} {r : Judged} → lent ≡ lent' → JudgesFile text lent t r → JudgesFile text lent' t r

@@ -1,5 +1,5 @@
 -- The promise of the whole-file call: demands 1 and 3, and what paper 02 adds to acceptance (M-101), for any text and any lent tables.
-use Rattle.std.specs.Prelude.{◌≡◌}
+use Rattle.std.specs.Prelude.{◌≡◌, Result, Ok, Err}
 use Rattle.format.specs.Text.{Bytes}
 use Rattle.equilibrium.specs.Meaning.{◌∈◌}
 use Rattle.format.specs.File.{Name, File}
@@ -10,9 +10,16 @@ use Rattle.counts.specs.Counts.{counts_of, no_counts}
 use Rattle.counts.specs.declared.Counts.{Counts}
 use Rattle.tables.specs.Names.{StandsIn}
 use Rattle.run.specs.Lent.{lengths}
-use Rattle.answers.specs.Answers.{filled}
+use Rattle.answers.specs.Answers.{answer, refusing, filled}
+use Rattle.state.specs.declared.Refused.{Refused}
+use Rattle.answers.specs.declared.Accepted.{Accepted}
 use Rattle.answers.specs.declared.Answer.{Answer}
 use Rattle.judge.specs.declared.Judged.{Judged}
+
+-- the answer and the counts that the end of a text gives: no counts of a refusal
+abbrev pub judged_by : Result Accepted Refused → Judged
+judged_by (Ok a) = record { answer = answer 0 a.line; counts = a.counts }
+judged_by (Err e) = record { answer = refusing e; counts = no_counts }
 
 -- Number and line are those of the definition, and the tables at exit hold exactly the accepted file and zeros after it (or zeros
 -- alone). A text that is accepted makes no claim that fails, and its claim is confirmed by the model on its M line or shows a

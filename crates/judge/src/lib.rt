@@ -5,14 +5,15 @@
 ghost use Rattle.std.specs.Prelude.{◌≡◌, false};
 ghost use Rattle.format.specs.Tables.{too_short};
 ghost use Rattle.run.specs.Lent.{five, lengths, clear, Zeros};
-ghost use Rattle.judge.specs.Contract.{JudgesFile};
+ghost use Rattle.judge.specs.Contract.{judged_by, JudgesFile};
 
-use answers::{Answer, finish};
+use answers::{Accepted, Answer, finish};
 use counts::Counts;
 use counts::lengths::too_short;
 use counts::limits::LEAST_NOTES;
+use refusals::Refusal;
 use run::run;
-use tables::clear;
+use state::Refused;
 
 // Zeros through every table.
 pub fn clear_all(
@@ -25,11 +26,11 @@ pub fn clear_all(
     ensures { five names.new formulas.new rows.new left.new right.new
         ≡ clear (lengths (five names.old formulas.old rows.old left.old right.old)) }
 {
-    clear(names);
-    clear(formulas);
-    clear(rows);
-    clear(left);
-    clear(right);
+    names.fill(0);
+    formulas.fill(0);
+    rows.fill(0);
+    left.fill(0);
+    right.fill(0);
 }
 
 // The answer, and the counts of the file that the tables hold; of none where the text is refused.
@@ -38,6 +39,23 @@ pub fn clear_all(
 pub struct Judged {
     pub answer: Answer,
     pub counts: Counts,
+}
+
+impl From<Result<Accepted, Refused>> for Judged {
+    ghost from_gives = { λ end judged. judged ≡ judged_by end };
+
+    fn from(end: Result<Accepted, Refused>) -> Judged {
+        match end {
+            Ok(accepted) => Judged {
+                answer: Answer::accepted(accepted.line),
+                counts: accepted.counts,
+            },
+            Err(refused) => Judged {
+                answer: Answer::from(refused),
+                counts: Counts::none(),
+            },
+        }
+    }
 }
 
 // A text run into clear tables of full length, which are clear again if it is refused.
@@ -57,16 +75,11 @@ fn run_or_clear(
 {
     let mut notes = [0u64; LEAST_NOTES];
     let ran = run(text, names, formulas, &mut notes, rows, left, right);
-    let answer = finish(text, ran);
-    if answer.number == 0 {
-        let counts = ran.state.counts;
-        return Judged { answer, counts };
+    let end = finish(text, ran);
+    if end.is_err() {
+        clear_all(names, formulas, rows, left, right);
     }
-    clear_all(names, formulas, rows, left, right);
-    Judged {
-        answer,
-        counts: Counts::none(),
-    }
+    Judged::from(end)
 }
 
 // The answer to a text, with the file in the lent tables if it is accepted and zeros through all of them if it is refused.
@@ -92,10 +105,10 @@ pub fn judge(
     );
     clear_all(names, formulas, rows, left, right);
     if short {
-        return Judged {
-            answer: Answer { number: 1, line: 0 },
-            counts: Counts::none(),
-        };
+        return Judged::from(Err(Refused {
+            refusal: Refusal::ShortTable,
+            line: 0,
+        }));
     }
     run_or_clear(text, names, formulas, rows, left, right)
 }

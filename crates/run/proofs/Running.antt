@@ -1,6 +1,7 @@
 -- The run over a text's lines: the invariant holds before the first line, is kept by each line that passes, and says what the
 -- run comes to where it stops.
 use Prim.Native.Nat.{ℕ, zero, suc, ◌+◌, ◌≤◌, ◌<◌, ◌-◌}
+use Rattle.std.specs.Prelude.{Ok, Err}
 use native.Mathlib.Nat.{sub-zero}
 use native.Mathlib.Omega.{arith}
 use mathlib.Core.Path.{◌≡◌, refl, sym, ap, ap₂, subst, ◌∙◌}
@@ -12,19 +13,19 @@ use Rattle.format.specs.File.{File, no_file}
 use Rattle.format.specs.Tables
 use Rattle.format.specs.Tables.{padded, most_bytes}
 use Rattle.format.specs.Judged.{Place, Outcome, next, refused, step, after, below, run, beginning, run_from, answer_from}
-use Rattle.format.proofs.Stepping.{lines_cons, run_line, run_next, answer_next, step_refused}
+use Rattle.format.proofs.Stepping.{lines_cons, run_line, run_next, answer_next}
 use Rattle.format.proofs.Beginnings.{step_good, good_start}
 use Rattle.parts.specs.Parts.{next_at, between}
 use Rattle.parts.proofs.PartLaws.{next_bounds, next_part}
 use Rattle.known.proofs.Indexing.{index_none}
-use Rattle.state.specs.State.{Memory, SameLengths, Steps, start}
+use Rattle.refusals.specs.Refusals.{number_of}
+use Rattle.refusals.specs.declared.Refusal.TheVariants.{TooLong}
+use Rattle.state.specs.State.{Stepped, Memory, SameLengths, Steps, start}
 use Rattle.lines.specs.Stepping.{LineStepped}
 use Rattle.lines.proofs.LineLaws.{same_lengths}
 use Rattle.state.specs.declared.State.{State}
-use Rattle.state.specs.declared.Stepped.{Stepped}
-use Rattle.atomset.proofs.Members.{members_zero}
-use Rattle.run.specs.Running.{place, Running, Fresh, unread, RunOver}
-use Rattle.run.specs.declared.Ran.{Ran}
+use Rattle.state.specs.declared.Refused.{Refused}
+use Rattle.run.specs.Running.{place, Running, Fresh, RunOver}
 
 -- before the first line, in clear tables
 running_start : (text : Bytes) (t : Memory) → Fresh t → Running text 1 0 start t
@@ -39,8 +40,7 @@ running_start text t fresh =
             full = fresh.full;
             counts = refl;
             stage = refl;
-            model = members_zero;
-            model_line = refl;
+            model = tt;
             claim = refl;
             names_in = λ n m. absurd (Memᴰ.not-nil m);
             names = empty t.names (ap (λ (c : Tables.Contents). c.names) fresh.zeros);
@@ -97,17 +97,19 @@ module _ (text : Bytes) (line at : ℕ) (s : State) (t : Memory) (within : at �
     after_line = ap (place (line + 1)) (omega (arith, from, length-take (end - at) (drop at text), length-drop at text))
 
     -- it passed
-    running_next : stepped.number ≡ 0 → Running text (line + 1) (end + 1) stepped.state u
-    running_next e = cases (step r.file (place line at) (between text at end)) refl outcome
+    running_next : (after_it : State) → stepped ≡ Ok after_it → Running text (line + 1) (end + 1) after_it u
+    running_next after_it e =
+        cases (step r.file (place line at) (between text at end)) refl
+        (subst (λ (x : Stepped). Steps text (step r.file (place line at) (between text at end)) x u) e outcome)
       where
-        cases : (o : Outcome File) → step r.file (place line at) (between text at end) ≡ o → Steps text o stepped u
-            → Running text (line + 1) (end + 1) stepped.state u
-        cases (next f) q k =
+        cases : (o : Outcome File) → step r.file (place line at) (between text at end) ≡ o → Steps text o (Ok after_it) u
+            → Running text (line + 1) (end + 1) after_it u
+        cases (next f) q stored =
             record {
               done = r.done ++ between text at end ∷ [];
               file = f;
               good = step_good (place line at) (between text at end) r.good q;
-              stored = k.1;
+              stored = stored;
               answer =
                   r.answer ∙ answer_next (place line at) r.file (drop at text) (between text at end) (drop (end + 1) text) f cut q
                   ∙ ap (λ (p : Place). answer_from p (drop (end + 1) text) f) after_line;
@@ -117,15 +119,17 @@ module _ (text : Bytes) (line at : ℕ) (s : State) (t : Memory) (within : at �
               counted = omega (arith, r.counted, ap (λ (ls : Lines). length ls.complete) lines);
               rest = r.rest ∙ ap (λ (ls : Lines). ls.rest) lines;
             }
-        cases (refused n l) q k = absurd (omega (arith, e, k.0, step_refused r.file (place line at) (between text at end) n l q))
+        cases (refused n l) q never = absurd never
 
     -- it was refused
-    running_refused : (stepped.number ≡ 0 → ⊥) → beginning text ≡ refused stepped.number stepped.line
-    running_refused ne = cases (step r.file (place line at) (between text at end)) refl outcome
+    running_refused : (why : Refused) → stepped ≡ Err why → beginning text ≡ refused (number_of why.refusal) why.line
+    running_refused why e =
+        cases (step r.file (place line at) (between text at end)) refl
+        (subst (λ (x : Stepped). Steps text (step r.file (place line at) (between text at end)) x u) e outcome)
       where
-        cases : (o : Outcome File) → step r.file (place line at) (between text at end) ≡ o → Steps text o stepped u
-            → beginning text ≡ refused stepped.number stepped.line
-        cases (next f) q k = absurd (ne k.0)
+        cases : (o : Outcome File) → step r.file (place line at) (between text at end) ≡ o → Steps text o (Err why) u
+            → beginning text ≡ refused (number_of why.refusal) why.line
+        cases (next f) q never = absurd never
         cases (refused n l) q k =
             r.outcome ∙ run_line (place line at) r.file (drop at text) (between text at end) (drop (end + 1) text) cut
             ∙ ap (λ (o : Outcome File). after o (run step (below (place line at) (between text at end)) (lines_of (drop (end + 1) text)).complete)) q
@@ -152,39 +156,26 @@ reached_start {text} {t} e found =
     }
 
 -- a text that is too long
-pub run_unread : {text : Bytes} {t : Memory} {ran : Ran} {s : State} → most_bytes < length text → s ≡ start
-    → ran ≡ record { number = 2; line = 0; at = 0; state = s } → RunOver text ran t t
-run_unread {text} {t} {ran} long e made =
+pub run_unread : {text : Bytes} {t : Memory} {s : State} → most_bytes < length text → s ≡ start
+    → RunOver text (Err (record { refused = record { refusal = TooLong; line = 0 }; at = 0; state = s })) t t
+run_unread {text} {t} long e =
     record {
-      too_long = λ h. (is_unread, refl);
+      too_long = λ h. (ap (λ (z : State). Err (record { refused = record { refusal = TooLong; line = 0 }; at = 0; state = z })) e, refl);
       runs = λ h. absurd (omega arith);
-      within = omega (arith, ap (λ (r : Ran). r.at) is_unread);
+      within = omega arith;
       lengths = same_lengths t;
     }
-  where
-    is_unread : ran ≡ unread
-    is_unread = made ∙ ap (λ (z : State). record { number = 2; line = 0; at = 0; state = z }) e
 
 module _ {text : Bytes} {t : Memory} {line at end : ℕ} {s : State} {u : Memory} (r : Reached text t line at end s u) (short : length text ≤ most_bytes) where
   -- no LF is left
-  pub run_out : length text ≤ end → {ran : Ran} → ran ≡ record { number = 0; line = line; at = at; state = s } → RunOver text ran t u
-  run_out h e = subst (λ (x : Ran). RunOver text x t u) (sym e) over
-    where
-      over : RunOver text (record { number = 0; line = line; at = at; state = s }) t u
-      over =
-          record {
-            too_long = λ long. absurd (omega arith);
-            runs =
-                λ few fresh.
-                record {
-                  passed = λ z. r.running fresh;
-                  all = λ z. omega (arith, r.found);
-                  refuses = λ ne. absurd (ne refl);
-                  stopped = λ ne. absurd (ne refl);
-                };
-            within = r.within;
-            lengths = r.lengths;
-          }
+  pub run_out : length text ≤ end → RunOver text (Ok (record { line = line; at = at; state = s })) t u
+  run_out h =
+      record {
+        too_long = λ long. absurd (omega arith);
+        runs = λ few fresh. record { running = r.running fresh; all = omega (arith, r.found) };
+        within = r.within;
+        lengths = r.lengths;
+      }
 
   -- the line that ends at an LF
   module _ (inside : end < length text) {stepped : Stepped} {v : Memory} (steps : LineStepped text at end line s stepped u v) where
@@ -202,11 +193,11 @@ module _ {text : Bytes} {t : Memory} {line at end : ℕ} {s : State} {u : Memory
         }
 
     -- it passed
-    pub reached_next : stepped.number ≡ 0 → {later : ℕ} → later ≡ next_at line_feed text (end + 1)
-        → Reached text t (line + 1) (end + 1) later stepped.state v
-    reached_next e found =
+    pub reached_next : {after_it : State} → stepped ≡ Ok after_it → {later : ℕ} → later ≡ next_at line_feed text (end + 1)
+        → Reached text t (line + 1) (end + 1) later after_it v
+    reached_next {after_it} e found =
         record {
-          running = λ fresh. running_next text line at s u r.within (r.running fresh) end short r.found inside stepped v steps e;
+          running = λ fresh. running_next text line at s u r.within (r.running fresh) end short r.found inside stepped v steps after_it e;
           found = found;
           within = omega arith;
           few = omega (arith, r.few, up_to text at end r.within r.found);
@@ -214,27 +205,20 @@ module _ {text : Bytes} {t : Memory} {line at end : ℕ} {s : State} {u : Memory
         }
 
     -- it was refused
-    pub run_refused : (stepped.number ≡ 0 → ⊥) → {ran : Ran}
-        → ran ≡ record { number = stepped.number; line = stepped.line; at = at; state = stepped.state } → RunOver text ran t v
-    run_refused ne e = subst (λ (x : Ran). RunOver text x t v) (sym e) over
+    pub run_refused : {why : Refused} → stepped ≡ Err why → RunOver text (Err (record { refused = why; at = at; state = s })) t v
+    run_refused {why} e =
+        record {
+          too_long = λ long. absurd (omega arith);
+          runs =
+              λ few fresh.
+              record {
+                refuses = running_refused text line at s u r.within (r.running fresh) end short r.found inside stepped v steps why e;
+                line = line;
+                running = subst (Running text line at s) (sym kept) (r.running fresh);
+              };
+          within = r.within;
+          lengths = same;
+        }
       where
-        kept : Running text line at s u → Running text line at stepped.state v
-        kept running =
-            let same = (steps.inside (up_to text at end r.within r.found) (omega arith)).keeps.kept ne in
-            subst (Running text line at stepped.state) (sym same.0) (subst (λ (z : State). Running text line at z u) (sym same.1) running)
-
-        over : RunOver text (record { number = stepped.number; line = stepped.line; at = at; state = stepped.state }) t v
-        over =
-            record {
-              too_long = λ long. absurd (omega arith);
-              runs =
-                  λ few fresh.
-                  record {
-                    passed = λ z. absurd (ne z);
-                    all = λ z. absurd (ne z);
-                    refuses = running_refused text line at s u r.within (r.running fresh) end short r.found inside stepped v steps;
-                    stopped = λ more. (line, kept (r.running fresh));
-                  };
-              within = r.within;
-              lengths = same;
-            }
+        kept : v ≡ u
+        kept = (steps.inside (up_to text at end r.within r.found) (omega arith)).keeps.kept why e

@@ -8,28 +8,30 @@ ghost use Rattle.run.specs.Running.{RunOver};
 use counts::limits::MOST_BYTES;
 use lines::step_line;
 use parts::find;
-use state::State;
+use refusals::Refusal;
+use state::{Refused, State};
 
-// What the complete lines come to: 0 with the line and the place after the last one and the state there, or the number of the
-// first line that is refused and the line that it belongs to.
+// All complete lines have passed: how many they are and 1, the place after the last one, and the state there.
 #[derive(Clone, Copy)]
 pub struct Ran {
-    pub number: u32,
     pub line: u32,
     pub at: usize,
     pub state: State,
 }
 
-impl Ran {
-    fn of(number: u32, line: u32, at: usize, state: State) -> Ran
-        ensures { result ≡ record { number = number; line = line; at = at; state = state } }
-    {
-        Ran {
-            number,
-            line,
-            at,
-            state,
-        }
+// What a text is refused for, and the place and the state before the line at which that was seen.
+#[derive(Clone, Copy)]
+pub struct Stopped {
+    pub refused: Refused,
+    pub at: usize,
+    pub state: State,
+}
+
+impl From<Stopped> for Refused {
+    ghost from_gives = { λ stopped refused. refused ≡ stopped.refused };
+
+    fn from(stopped: Stopped) -> Refused {
+        stopped.refused
     }
 }
 
@@ -43,30 +45,34 @@ pub fn run(
     rows: &mut [u16],
     left: &mut [u16],
     right: &mut [u16],
-) -> Ran
+) -> Result<Ran, Stopped>
     ensures { RunOver text.now result
         (tables names.old formulas.old notes.old rows.old left.old right.old)
         (tables names.new formulas.new notes.new rows.new left.new right.new) }
 {
     let mut state = State::start();
+    let mut at = 0;
     if MOST_BYTES < text.len() {
-        return Ran::of(2, 0, 0, state);
+        let refused = Refused {
+            refusal: Refusal::TooLong,
+            line: 0,
+        };
+        return Err(Stopped { refused, at, state });
     }
-    let mut at: usize = 0;
-    let mut line: u32 = 1;
-    let mut end = find(text, 0, b'\n');
+    let mut line = 1;
+    let mut end = find(text, at, b'\n');
+    // A while: the tables keep where in the text a name stands, so a line is judged by its place, which no iterator of lines gives.
     while end < text.len() {
         let stepped = step_line(
             text, at, end, line, names, formulas, notes, rows, left, right, state,
         );
-        let after = stepped.state;
-        if stepped.number != 0 {
-            return Ran::of(stepped.number, stepped.line, at, after);
+        match stepped {
+            Ok(next) => state = next,
+            Err(refused) => return Err(Stopped { refused, at, state }),
         }
-        state = after;
         at = end + 1;
         line += 1;
         end = find(text, at, b'\n');
     }
-    Ran::of(0, line, at, state)
+    Ok(Ran { line, at, state })
 }

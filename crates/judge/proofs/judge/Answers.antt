@@ -1,9 +1,10 @@
 -- `judge::judge` meets its contract: by the lengths first, and then by the run.
-use native.Mathlib.Omega.{arith}
-use mathlib.Core.Path.{sym, ap, ◌∙◌}
+use mathlib.Core.Path.{sym, ap, subst, ◌∙◌}
 use Rattle.format.specs.Tables.{too_short}
+use Rattle.refusals.specs.declared.Refusal.TheVariants.{ShortTable}
 use Rattle.run.specs.Lent.{five, lengths}
-use Rattle.judge.proofs.Whole.{judged_short, cleared_file, judges_same, clear_lengths, clear_zeros}
+use Rattle.judge.specs.Contract.{JudgesFile}
+use Rattle.judge.proofs.Whole.{judged_short, judges_cleared, judges_same, clear_lengths, clear_zeros}
 use Rattle.judge.proofs.judge.Goals as goal
 
 pub returns-then-short : goal.returns-then-short
@@ -11,7 +12,8 @@ returns-then-short c =
     let args = c.args in
     let lent = lengths (five args.names.now args.formulas.now args.rows.now args.left.now args.right.now) in
     let short = judged_short args.text.now lent (sym c.too_short-short.ensures ∙ c.if-short.true) in
-    cleared_file args.text.now lent _ _ short (λ e. omega (arith, e)) c.clear_all.ensures c.none.ensures
+    subst (JudgesFile args.text.now lent _) (sym c.from.ensures)
+    (judges_cleared args.text.now lent (record { refusal = ShortTable; line = 0 }) short c.clear_all.ensures)
 
 pub run_or_clear-requires : goal.run_or_clear-requires
 run_or_clear-requires c =
