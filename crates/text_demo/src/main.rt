@@ -5,11 +5,10 @@
 ghost use Rattle.std.specs.Prelude.{◌≡◌, [], get_or};
 ghost use Rattle.format.specs.Text.{fields_of};
 
-use keywords::Kind;
+use keywords::{Kind, Word};
 use std::io;
 use std::io::Write;
 use text::lists::Listed;
-use text::numbers::{Number, Optional};
 
 fn put(rt: &impl Print, bytes: &[u8]) -> io::Result<()> {
     io::writer(rt).write_all(bytes)
@@ -17,10 +16,6 @@ fn put(rt: &impl Print, bytes: &[u8]) -> io::Result<()> {
 
 fn put_decimal(rt: &impl Print, n: u64) -> io::Result<()> {
     print!(rt; "{n}")
-}
-
-fn put_entry(rt: &impl Print, n: u16) -> io::Result<()> {
-    put_decimal(rt, n as u64)
 }
 
 // What is read, and of which field.
@@ -39,8 +34,8 @@ fn show_number(rt: &impl Print, field: &[u8]) -> io::Result<()> {
     put_head(rt, b"number", field)?;
     let number = text::numbers::read_number(field);
     match number {
-        Number::Value(n) => put_decimal(rt, n as u64)?,
-        Number::Bad => put(rt, b"bad")?,
+        Some(n) => put_decimal(rt, u64::from(n))?,
+        None => put(rt, b"bad")?,
     }
     put(rt, b"\n")
 }
@@ -49,25 +44,25 @@ fn show_principal(rt: &impl Print, field: &[u8]) -> io::Result<()> {
     put_head(rt, b"principal", field)?;
     let principal = text::numbers::read_principal(field);
     match principal {
-        Optional::Absent => put(rt, b"absent")?,
-        Optional::Value(n) => put_decimal(rt, n as u64)?,
-        Optional::Bad => put(rt, b"bad")?,
+        Some(None) => put(rt, b"absent")?,
+        Some(Some(n)) => put_decimal(rt, u64::from(n))?,
+        None => put(rt, b"bad")?,
     }
     put(rt, b"\n")
 }
 
 // What is known of a list, and what a table of two entries holds of it.
-fn put_listed(rt: &impl Print, listed: Listed, out: [u16; 2]) -> io::Result<()> {
-    if listed.well {
+fn put_listed(rt: &impl Print, listed: Option<Listed>, out: [u16; 2]) -> io::Result<()> {
+    if let Some(listed) = listed {
         put_decimal(rt, listed.count as u64)?;
         put(rt, b" entries, all below ")?;
         put_decimal(rt, listed.above as u64)?;
         put(rt, b", rising ")?;
         put_bool(rt, listed.rising)?;
         put(rt, b", stored ")?;
-        put_entry(rt, out[0])?;
+        put_decimal(rt, u64::from(out[0]))?;
         put(rt, b" ")?;
-        put_entry(rt, out[1])?;
+        put_decimal(rt, u64::from(out[1]))?;
     } else {
         put(rt, b"bad")?;
     }
@@ -95,12 +90,21 @@ fn show_name(rt: &impl Print, field: &[u8]) -> io::Result<()> {
     put(rt, b"\n")
 }
 
+// What is printed for no word of an F line, and for no rule.
+const NO_WORD: u64 = 6;
+
+const NO_RULE: u64 = 65535;
+
+fn code_of(word: Word) -> u64 {
+    u64::from(u16::from(word))
+}
+
 fn show_words(rt: &impl Print, field: &[u8]) -> io::Result<()> {
     put_head(rt, b"word", field)?;
     put(rt, b"formula ")?;
-    put_decimal(rt, keywords::formula_word(field) as u64)?;
+    put_decimal(rt, keywords::formula_word(field).map_or(NO_WORD, code_of))?;
     put(rt, b", rule ")?;
-    put_decimal(rt, keywords::rule_word(field) as u64)?;
+    put_decimal(rt, keywords::rule_word(field).map_or(NO_RULE, u64::from))?;
     put(rt, b"\n")
 }
 
@@ -108,12 +112,12 @@ fn show_kind(rt: &impl Print, field: &[u8]) -> io::Result<()> {
     put_head(rt, b"kind", field)?;
     let kind = keywords::line_kind(field);
     match kind {
-        Kind::Atom => put(rt, b"atom")?,
-        Kind::Formula => put(rt, b"formula")?,
-        Kind::Row => put(rt, b"row")?,
-        Kind::Model => put(rt, b"model")?,
-        Kind::Claim => put(rt, b"claim")?,
-        Kind::Unknown => put(rt, b"unknown")?,
+        Some(Kind::Atom) => put(rt, b"atom")?,
+        Some(Kind::Formula) => put(rt, b"formula")?,
+        Some(Kind::Row) => put(rt, b"row")?,
+        Some(Kind::Model) => put(rt, b"model")?,
+        Some(Kind::Claim) => put(rt, b"claim")?,
+        None => put(rt, b"unknown")?,
     }
     put(rt, b"\n")
 }
