@@ -9,18 +9,15 @@ use tables::records::{RowRecord, front, narrow_place, put_row, put_side};
 fn recorded(draft: Draft, counts: Counts) -> RowRecord
     ensures { result ≡ record_of draft counts }
 {
-    let principal = draft.principal;
-    let left = draft.left;
-    let right = draft.right;
     RowRecord {
         rule: draft.rule,
-        principal: principal_number(principal),
+        principal: principal_number(draft.principal),
         first: draft.first,
         second: draft.second,
         left_start: narrow_place(counts.left),
-        left_length: narrow_place(left.count),
+        left_length: narrow_place(draft.left.count),
         right_start: narrow_place(counts.right),
-        right_length: narrow_place(right.count),
+        right_length: narrow_place(draft.right.count),
     }
 }
 
@@ -37,10 +34,7 @@ pub fn store_row(
     ensures { RowStored draft counts antecedent.now succedent.now
         rows.old left.old right.old rows.new left.new right.new }
 {
-    let l = draft.left;
-    let r = draft.right;
-    let record = recorded(draft, counts);
-    put_row(rows, counts.rows, record);
-    put_side(left, counts.left, front(antecedent, l.count));
-    put_side(right, counts.right, front(succedent, r.count));
+    put_row(rows, counts.rows, recorded(draft, counts));
+    put_side(left, counts.left, front(antecedent, draft.left.count));
+    put_side(right, counts.right, front(succedent, draft.right.count));
 }

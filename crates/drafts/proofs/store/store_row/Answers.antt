@@ -12,7 +12,7 @@ returns c =
     record {
       row_written =
           c.put_row.ensures
-          ∙ ap (λ (r : RowRecord). written args.rows.now (row_width * args.counts.rows) (row_numbers r)) c.recorded-record.ensures;
+          ∙ ap (λ (r : RowRecord). written args.rows.now (row_width * args.counts.rows) (row_numbers r)) c.recorded.ensures;
       left_written = c.put_side.ensures ∙ ap (written args.left.now args.counts.left) c.front.ensures;
       right_written = c.put_side-2.ensures ∙ ap (written args.right.now args.counts.right) c.front-2.ensures;
     }
