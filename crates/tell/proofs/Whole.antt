@@ -1,11 +1,10 @@
 -- The whole answer: the file's own refusal first, then whether its words fit.
-use Prim.Native.Nat.{ℕ, ◌%◌, ◌≤◌, ◌<◌}
+use Prim.Native.Nat.{ℕ, ◌%◌}
 use native.Mathlib.Omega.{arith}
 use mathlib.Core.Bool.{Bool, true, false, cond}
 use mathlib.Core.List.{[]}
 use mathlib.Core.Path.{◌≡◌, refl, sym, ap, subst, ◌∙◌}
-use borrow.Author.Tests.{le-leb, lt-leb, leb-true, leb-false}
-use lib.Dec.{leb}
+use borrow.Author.Tests.{leb-true, leb-false}
 use lib.ListN.{length}
 use Rattle.format.specs.Text.{Bytes}
 use Rattle.format.specs.File.{File}
@@ -20,36 +19,13 @@ use Rattle.answers.specs.declared.Answer.{Answer}
 use Rattle.judge.specs.Contract.{Filed, JudgesFile}
 use Rattle.judge.specs.declared.Judged.{Judged}
 use Rattle.judge.proofs.Whole.{nothing_held}
-use Rattle.writer.specs.declared.Written.{Written}
-use Rattle.writer.specs.Writing.{no_room, front, Writes}
-use Rattle.writer.proofs.Writing.{writes_within, writes_end, writes_full}
+use Rattle.writer.specs.Writing.{no_room}
 use Rattle.words.specs.Words.{words_in}
 use Rattle.words.proofs.Unrolled.{words_of_file}
 use Rattle.words.proofs.Call.{file_refused, words_fit, words_too_long}
 use Rattle.sentences.specs.Sentences.{table_sentences}
 use Rattle.sentences.proofs.Held.{HoldsFile, held_sentences}
 use Rattle.tell.specs.Contract.{PutsWords, Tells}
-
--- ---- words into a lent text
-
-module _ {words text text₁ text₂ : Bytes} {w : Written} (p : Writes words text (Written.To 0) text₁ w)
-    (padded-so : text₂ ≡ padded (length text₁) (front text₁ w)) where
-  by_room : {fit : Bool} → leb (length words) (length text) ≡ fit → front text₁ w ≡ cond fit words [] → PutsWords words (length text) text₂ fit
-  by_room e f =
-      record { fits = sym e; left = padded-so ∙ ap (λ (n : ℕ). padded n (front text₁ w)) p.length_kept ∙ ap (padded (length text)) f }
-
-  pub puts_told : {end : ℕ} → w ≡ Written.To end → PutsWords words (length text) text₂ true
-  puts_told {end} e =
-      let told = subst (λ (v : Written). Writes words text (Written.To 0) text₁ v) e p in
-      let room : length words ≤ length text = omega (arith, writes_end told, writes_within told) in
-      by_room (le-leb (length words) (length text) room)
-      (ap (front text₁) (e ∙ ap Written.To (writes_end told)) ∙ p.in_front 0 refl (omega (arith, room)))
-
-  pub puts_none : w ≡ Written.NoRoom → PutsWords words (length text) text₂ false
-  puts_none e =
-      let told = subst (λ (v : Written). Writes words text (Written.To 0) text₁ v) e p in
-      let full : length text < length words = omega (arith, writes_full told) in
-      by_room (lt-leb (length words) (length text) full) (ap (front text₁) e)
 
 -- ---- the file that the tables hold
 
@@ -140,16 +116,16 @@ module _ {text : Bytes} {lent : Lent} {t : Contents} {r : Judged} (j : JudgesFil
           }
 
       -- they do not, and the tables were cleared
-      pub tells_no_room : {u : Contents} → fit ≡ false → u ≡ clear lent → Tells text lent space u words (record { number = no_room; line = 0 })
-      tells_no_room e cleared =
+      pub tells_no_room : {n : ℕ} {u : Contents} → n ≡ no_room → fit ≡ false → u ≡ clear lent → Tells text lent space u words (record { number = n; line = 0 })
+      tells_no_room f e cleared =
           let leaves = words_too_long lent space text answer.line (j.accepts fine) (leb-false (length (words_in text)) space (sym put.fits ∙ e)) in
           record {
-            number = sym (ap number_in leaves.ruled);
+            number = f ∙ sym (ap number_in leaves.ruled);
             line = sym (ap line_in leaves.ruled);
             words_told = put.left ∙ ap (λ (b : Bool). padded space (cond b (words_in text) [])) e ∙ sym leaves.left;
             tables = cleared ∙ nothing_held lent ∙ ap (filled lent) (sym leaves.contents);
-            claim_holds = λ z. absurd (omega (arith, z));
-            claim_shown = λ z. absurd (omega (arith, z));
+            claim_holds = λ z. absurd (omega (arith, f, z));
+            claim_shown = λ z. absurd (omega (arith, f, z));
           }
 
 abbrev lent_of : ℕ → ℕ → ℕ → ℕ → ℕ → Lent

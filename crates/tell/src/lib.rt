@@ -3,35 +3,24 @@
 
 ghost use Rattle.std.specs.Prelude.{length};
 ghost use Rattle.run.specs.Lent.{five, lengths};
-ghost use Rattle.sentences.specs.Sentences.{table_sentences};
+ghost use Rattle.sentences.specs.Books.{sentences_in};
 ghost use Rattle.tell.specs.Contract.{PutsWords, Tells};
 
 use answers::Answer;
 use judge::{clear_all, judge};
-use sentences::put_sentences;
+use phrases::Sheet;
+use refusals::Refusal;
+use sentences::Book;
 use tables::records::narrow_place;
-use writer::{NO_ROOM, Written, pad};
+use writer::pad;
 
 // The sentences of the first `count` rows, with zeros after them, and whether there is room; zeros alone where there is none.
-fn put_words<'a>(
-    text: &[u8],
-    names: &[u16],
-    formulas: &[u16],
-    rows: &[u16],
-    left: &'a [u16],
-    right: &'a [u16],
-    count: u16,
-    words: &mut [u8],
-) -> bool
-    ensures { PutsWords (table_sentences text.now names.now formulas.now
-        rows.now left.now right.now 0 count) (length words.old) words.new result }
+fn put_words(book: Book, count: u16, words: &mut [u8]) -> bool
+    ensures { PutsWords (sentences_in book.entry 0 count) (length words.old) words.new result }
 {
-    let written = put_sentences(text, names, formulas, rows, left, right, count, words);
-    pad(words, written);
-    match written {
-        Written::To(_) => true,
-        Written::NoRoom => false,
-    }
+    let end = book.put_sentences(count, words);
+    pad(words, end);
+    end.is_some()
 }
 
 // The answer to a text. If it is accepted and there is room, the file is in the lent tables and the sentences of its rows are in
@@ -53,16 +42,26 @@ pub fn tell(
     let judged = judge(text, names, formulas, rows, left, right);
     let answer = judged.answer;
     if answer.number != 0 {
-        pad(words, Written::NoRoom);
+        pad(words, None);
         return answer;
     }
     let count = narrow_place(judged.counts.rows);
-    if put_words(text, names, formulas, rows, left, right, count, words) {
+    let book = Book {
+        sheet: Sheet {
+            text,
+            names,
+            formulas,
+        },
+        rows,
+        left,
+        right,
+    };
+    if put_words(book, count, words) {
         return answer;
     }
     clear_all(names, formulas, rows, left, right);
     Answer {
-        number: NO_ROOM,
+        number: Refusal::NoRoom.number(),
         line: 0,
     }
 }

@@ -19,5 +19,5 @@ returns c =
     let put = puts_file (c.judge-judged.ensures.filed fine) c.narrow_place-count.ensures c.put_words.ensures in
     let kept = c.judge-judged.auto in
     let same = same_lengths kept.names kept.formulas kept.rows kept.left kept.right in
-    tells_no_room c.judge-judged.ensures _ fine put c.if-put_words.false
+    tells_no_room c.judge-judged.ensures _ fine put c.number.ensures c.if-put_words.false
     (c.clear_all.ensures ∙ ap clear same)
