@@ -11,6 +11,7 @@ use mathlib.Core.Logic.{⊎_elim}
 use mathlib.Core.Path.{◌≡◌, refl, sym, ap, ap₂, ◌∙◌}
 use lib.Dec.{eqb}
 use lib.ListN.{length, length-append, length-map, length-drop, get_or-eq_default}
+use Rattle.std.specs.List.{list_all}
 use Rattle.equilibrium.specs.Meaning.{◌∈◌}
 use Rattle.format.specs.Text.{all}
 use Rattle.format.specs.Tables.{most_formulas}
@@ -60,6 +61,11 @@ there_noted {formulas} {end} {model} {before} room noted i h = noted_below (λ i
 pub length_here : {formulas there before after : List ℕ} {end h : ℕ} → NotedHere formulas end h there before after → length after ≡ length before
 length_here {formulas} {there} {before} {end = end} {h = h} Noted-here =
     ap length Noted-here.answer ∙ length_noted (truths_here formulas h (noted_at there) (min end (length before))) before (rw length_truths (omega arith))
+
+-- all of a list pass, as `Iterator::all` asks it
+pub all_listed : {A : Type 0} (f : A → Bool) (xs : List A) → all f xs ≡ list_all f xs
+all_listed f [] = refl
+all_listed f (x ∷ xs) = ap (λ (rest : Bool). f x && rest) (all_listed f xs)
 
 -- tests that agree on a list
 all_same : (f g : ℕ → Bool) (xs : List ℕ) → ((x : ℕ) → x ∈ xs → f x ≡ g x) → all f xs ≡ all g xs

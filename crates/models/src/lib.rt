@@ -2,7 +2,8 @@
 // side, the sheet. The model is one 64-bit word. Its proper parts are counted, and each is judged with the model as a pair of words.
 #![tactic(auto)]
 
-ghost use Rattle.std.specs.Prelude.{◌≡◌, not, ◌≤◌, length};
+ghost use Rattle.std.specs.Prelude.{◌≡◌, not, ◌≤◌, length, is_some, unwrap_or};
+ghost use Rattle.refusals.specs.Refusals.{outcome};
 ghost use Rattle.format.specs.Text.{all};
 ghost use Rattle.format.specs.Tables.{most_formulas};
 ghost use Rattle.format.specs.Model.{most_in_model};
@@ -13,7 +14,8 @@ ghost use Rattle.models.specs.Models.{only_falsum, some_upsets, in_equilibrium, 
 use atomset::count;
 use counts::limits::MOST_FORMULAS;
 use pairs::{fill_here, fill_there, holds, part_of, past_largest};
-use tables::records::{BOT, node, wide};
+use refusals::Refusal;
+use tables::records::{BOT, node};
 
 // The most atoms of a model.
 const MOST_IN_MODEL: usize = 16;
@@ -22,29 +24,15 @@ const MOST_IN_MODEL: usize = 16;
 fn only_falsum(formulas: &[u16], side: &[u16]) -> bool
     ensures { result ≡ only_falsum formulas.now side.now }
 {
-    let mut i = 0;
-    while i < side.len() {
-        let key = node(formulas, wide(side[i]));
-        if key.word != BOT {
-            return false;
-        }
-        i += 1;
-    }
-    true
+    side.iter()
+        .all(|x| node(formulas, usize::from(*x)).word == BOT)
 }
 
 // Whether all formulas of a side are noted to hold.
 fn holds_all(notes: &[u8], side: &[u16]) -> bool
     ensures { result ≡ all (noted_at notes.now) side.now }
 {
-    let mut i = 0;
-    while i < side.len() {
-        if !holds(notes, wide(side[i])) {
-            return false;
-        }
-        i += 1;
-    }
-    true
+    side.iter().all(|x| holds(notes, usize::from(*x)))
 }
 
 // Whether no proper part of the model satisfies the sheet with it. `there` notes what holds in the model itself, and `here` is room
@@ -61,24 +49,13 @@ fn undisturbed(
     ensures { result ≡ not (some_upsets formulas.now sheet.now model) }
 {
     let last = (1u64 << count(model)) - 1;
-    let mut upset = false;
-    let mut n = 0;
-    'parts: while n < last {
+    for n in 0..last {
         fill_here(formulas, end, part_of(model, n), there, here);
-        let mut i = 0;
-        loop {
-            if i >= sheet.len() {
-                upset = true;
-                break 'parts;
-            }
-            if !holds(here, wide(sheet[i])) {
-                break;
-            }
-            i += 1;
+        if holds_all(here, sheet) {
+            return false;
         }
-        n += 1;
     }
-    !upset
+    true
 }
 
 // Whether the model is in equilibrium, with room for notes on the formulas.
@@ -110,25 +87,30 @@ fn in_equilibrium(formulas: &[u16], sheet: &[u16], model: u64) -> bool
     tested_with(formulas, sheet, model, &mut there, &mut here)
 }
 
-// The first of the numbers 15, 16 and 17 that applies to a claim, 0 if none does: `given` says whether there is a model.
-pub fn model_number(formulas: &[u16], left: &[u16], right: &[u16], given: bool, model: u64) -> u32
-    ensures { ModelNumbered formulas.now left.now right.now given model result }
+// The model that is lent with a claim, if there is one, against what the claim wants: the first of the numbers 15, 16 and 17 that applies.
+pub fn model_number(
+    formulas: &[u16],
+    left: &[u16],
+    right: &[u16],
+    model: Option<u64>,
+) -> Result<(), Refusal>
+    ensures { ModelNumbered formulas.now left.now right.now (is_some model) (unwrap_or model 0) (outcome result) }
 {
     let contradiction = only_falsum(formulas, right);
-    if !given {
+    let Some(atoms) = model else {
         if contradiction {
-            return 0;
+            return Ok(());
         }
-        return 15;
-    }
+        return Err(Refusal::ModelMissingOrUnwanted);
+    };
     if contradiction {
-        return 15;
+        return Err(Refusal::ModelMissingOrUnwanted);
     }
-    if MOST_IN_MODEL < count(model) {
-        return 16;
+    if MOST_IN_MODEL < count(atoms) {
+        return Err(Refusal::ModelTooLarge);
     }
-    if in_equilibrium(formulas, left, model) {
-        return 0;
+    if in_equilibrium(formulas, left, atoms) {
+        return Ok(());
     }
-    17
+    Err(Refusal::NotInEquilibrium)
 }

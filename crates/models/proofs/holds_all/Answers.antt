@@ -1,23 +1,14 @@
-use mathlib.Core.Path.{sym}
-use borrow.Author.Tests.{not-true, not-false}
-use Rattle.pairs.specs.Truths.{noted_at}
-use Rattle.models.proofs.Passing.{passes, fails, all_passed}
+-- `models::holds_all` meets its contract. Assumes nothing.
+use mathlib.Core.Path.{sym, ◌∙◌}
 use borrow.Author.Rules.{rules}
+use Rattle.std.proofs.lemmas.Iterator.{YieldsList-from_slice}
+use Rattle.std.proofs.lemmas.Iterator.Search.{all_from_yields_List}
+use Rattle.pairs.specs.Truths.{noted_at}
+use Rattle.models.proofs.Judging.{all_listed}
 use Rattle.models.proofs.holds_all.Goals as goal
-
-pub returns-then-not-holds : goal.returns-then-not-holds
-returns-then-not-holds c =
-    let args = c.args in
-    sym (fails (noted_at args.notes.now) args.side.now c.loop-i.i c.loop-i.invariant (search rules) c.wide.ensures
-    c.holds.ensures (not-true _ c.if-not-holds.true-raw))
-
-pub loop-i-preserved : goal.loop-i-preserved
-loop-i-preserved c =
-    let args = c.args in
-    passes (noted_at args.notes.now) args.side.now c.loop-i.i c.loop-i.invariant (search rules) c.wide.ensures
-    c.holds.ensures (not-false _ c.if-not-holds.false-raw)
 
 pub returns : goal.returns
 returns c =
-    let args = c.args in
-    sym (all_passed (noted_at args.notes.now) args.side.now c.loop-i.i c.loop-i.invariant (search rules))
+    let test = noted_at c.args.notes.now in
+    all_from_yields_List test _ _ c.all.result c.all.ensures.ran (YieldsList-from_slice c.args.side.now cc) (λ x b q k. search rules)
+    ∙ sym (all_listed test c.args.side.now)

@@ -1,25 +1,17 @@
-use mathlib.Core.Path.{sym, ap}
-use borrow.Author.Tests.{eq-eqb, ne_eqb}
-use lib.Dec.{eqb}
-use Rattle.tables.specs.declared.records.NodeRecord.{NodeRecord}
-use Rattle.models.proofs.Passing.{passes, fails, all_passed}
+-- `models::only_falsum` meets its contract. Assumes nothing.
+use Prim.Native.Nat.{ℕ}
+use mathlib.Core.Bool.{Bool}
+use mathlib.Core.Path.{sym, ◌∙◌}
 use borrow.Author.Rules.{rules}
-use Rattle.models.proofs.only_falsum.Invariants.{is_falsum}
+use lib.Dec.{eqb}
+use Rattle.std.proofs.lemmas.Iterator.{YieldsList-from_slice}
+use Rattle.std.proofs.lemmas.Iterator.Search.{all_from_yields_List}
+use Rattle.tables.specs.Records.{node_at, record_from}
+use Rattle.models.proofs.Judging.{all_listed}
 use Rattle.models.proofs.only_falsum.Goals as goal
-
-pub returns-then-key-ne-BOT : goal.returns-then-key-ne-BOT
-returns-then-key-ne-BOT c =
-    let args = c.args in
-    sym (fails (is_falsum args.formulas.now) args.side.now c.loop-i.i c.loop-i.invariant (search rules) c.wide.ensures
-    (ap (λ (n : NodeRecord). eqb n.word 0) c.node-key.ensures) (ne_eqb c.node-key.result.word 0 c.if-key-ne-BOT.true))
-
-pub loop-i-preserved : goal.loop-i-preserved
-loop-i-preserved c =
-    let args = c.args in
-    passes (is_falsum args.formulas.now) args.side.now c.loop-i.i c.loop-i.invariant (search rules) c.wide.ensures
-    (ap (λ (n : NodeRecord). eqb n.word 0) c.node-key.ensures) (eq-eqb c.node-key.result.word 0 c.if-key-ne-BOT.false)
 
 pub returns : goal.returns
 returns c =
-    let args = c.args in
-    sym (all_passed (is_falsum args.formulas.now) args.side.now c.loop-i.i c.loop-i.invariant (search rules))
+    let test : ℕ → Bool = λ i. eqb (record_from (node_at c.args.formulas.now i)).word 0 in
+    all_from_yields_List test _ _ c.all.result c.all.ensures.ran (YieldsList-from_slice c.args.side.now cc) (λ x b q k. search rules)
+    ∙ sym (all_listed test c.args.side.now)
