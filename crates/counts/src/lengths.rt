@@ -5,20 +5,13 @@ ghost use Rattle.format.specs.Tables.{too_short};
 use crate::limits::{LEAST_FORMULAS, LEAST_NAMES, LEAST_ROWS, MOST_ENTRIES};
 
 // Whether a lent table is too short for the most that a file holds.
+#[tactic(auto, unfolding(format::specs::Tables::too_short))]
 pub fn too_short(names: usize, formulas: usize, rows: usize, left: usize, right: usize) -> bool
     ensures { result ≡ too_short (record { names = names; formulas = formulas; rows = rows; left = left; right = right }) }
 {
-    if names < LEAST_NAMES {
-        return true;
-    }
-    if formulas < LEAST_FORMULAS {
-        return true;
-    }
-    if rows < LEAST_ROWS {
-        return true;
-    }
-    if left < MOST_ENTRIES {
-        return true;
-    }
-    right < MOST_ENTRIES
+    names < LEAST_NAMES
+        || formulas < LEAST_FORMULAS
+        || rows < LEAST_ROWS
+        || left < MOST_ENTRIES
+        || right < MOST_ENTRIES
 }

@@ -12,7 +12,7 @@ ghost use Rattle.counts.specs.Counts.{no_counts, count_atom, count_formula, full
 use crate::limits::{MOST_ATOMS, MOST_ENTRIES, MOST_FORMULAS, MOST_ROWS};
 
 #[repr(C)]
-#[derive(Clone, Copy)]
+#[derive(Clone, Copy, PartialEq, Eq)]
 pub struct Counts {
     pub atoms: usize,
     pub formulas: usize,
@@ -25,10 +25,7 @@ pub struct Counts {
 fn passes(held: usize, entries: usize) -> bool
     ensures { result ≡ ltb most_entries (held + entries) }
 {
-    if MOST_ENTRIES < held {
-        return true;
-    }
-    MOST_ENTRIES - held < entries
+    MOST_ENTRIES < held.saturating_add(entries)
 }
 
 impl Counts {
@@ -45,41 +42,41 @@ impl Counts {
         }
     }
 
+    #[tactic(auto, unfolding(crate::specs::Counts::count_atom))]
     pub fn with_atom(self) -> Counts
         ensures { result ≡ count_atom self }
     {
         if self.atoms >= MOST_ATOMS {
             return self;
         }
-        let mut next = self;
-        next.atoms = self.atoms + 1;
-        next
+        Counts {
+            atoms: self.atoms + 1,
+            ..self
+        }
     }
 
+    #[tactic(auto, unfolding(crate::specs::Counts::count_formula))]
     pub fn with_formula(self) -> Counts
         ensures { result ≡ count_formula self }
     {
         if self.formulas >= MOST_FORMULAS {
             return self;
         }
-        let mut next = self;
-        next.formulas = self.formulas + 1;
-        next
+        Counts {
+            formulas: self.formulas + 1,
+            ..self
+        }
     }
 
     // Whether there is no room for a row with so many numbers on its sides.
+    #[tactic(auto, unfolding(crate::specs::Counts::full_for))]
     pub fn is_full(self, left: usize, right: usize) -> bool
         ensures { result ≡ full_for self left right }
     {
-        if MOST_ROWS <= self.rows {
-            return true;
-        }
-        if passes(self.left, left) {
-            return true;
-        }
-        passes(self.right, right)
+        MOST_ROWS <= self.rows || passes(self.left, left) || passes(self.right, right)
     }
 
+    #[tactic(auto, unfolding(crate::specs::Counts::count_row, crate::specs::Counts::full_for))]
     pub fn with_row(self, left: usize, right: usize) -> Counts
         ensures { result ≡ count_row self left right }
     {
@@ -87,11 +84,10 @@ impl Counts {
             return self;
         }
         Counts {
-            atoms: self.atoms,
-            formulas: self.formulas,
             rows: self.rows + 1,
             left: self.left + left,
             right: self.right + right,
+            ..self
         }
     }
 }
