@@ -100,24 +100,17 @@ impl State {
 }
 
 // Whether a line of stage `next` may not follow: never back, and M and C come once.
+#[tactic(auto, unfolding(crate::specs::State::out_of_turn))]
 pub fn out_of_turn(stage: u32, next: u32) -> bool
     ensures { result ≡ out_of_turn stage next }
 {
-    if stage < next {
-        return false;
-    }
-    if next < stage {
-        return true;
-    }
-    MODELLED <= next
+    next < stage || next == stage && MODELLED <= next
 }
 
 // Whether the kind of a line is out of order, or its number is not the next one.
+#[tactic(auto, unfolding(crate::specs::State::not_next))]
 pub fn out_of_order(stage: u32, next: u32, held: usize, number: u32) -> bool
     ensures { result ≡ not_next stage next held number }
 {
-    if out_of_turn(stage, next) {
-        return true;
-    }
-    number as usize != held
+    out_of_turn(stage, next) || number as usize != held
 }
