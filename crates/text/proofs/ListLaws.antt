@@ -4,7 +4,7 @@ use Prim.Native.Nat.{ℕ, zero, suc, ◌+◌, ◌-◌, ◌%◌, ◌≤◌, ◌<�
 use mathlib.Core.Path.{◌≡◌, refl, sym, ap, ap₂, ◌∙◌}
 use mathlib.Core.Bool.{Bool, true, false, ◌&&◌, and-true, and-false}
 use mathlib.Core.List.{List, [], ◌∷◌, ◌++◌, append_assoc, append-nil}
-use native.Mathlib.Numerals.{lt_of_le_of_ne}
+use mathlib.Core.Logic.{◌⊎◌, inl, inr}
 use native.Mathlib.Omega.{arith}
 use lib.Dec.{ltb, leb}
 use lib.ListN.{length, set, length-append, length-set}
@@ -139,43 +139,37 @@ unfolding laid_at
 laid_past table at [] h = refl
 laid_past table at (x ∷ xs) h = ap (λ t. laid_at t (at + 1) xs) (set_out table at (x % 65536) h) ∙ laid_past table (at + 1) xs (omega arith)
 
-laid_first : (table : List ℕ) (at first last : ℕ) → first ≤ last
-    → laid_at table at (spanned first last) ≡ laid_at (set table at (first % 65536)) (at + 1) (spanned (first + 1) last)
-unfolding laid_at
-laid_first table at first last h =
-    let same : last - first ≡ last + 1 - (first + 1) = omega arith in
-    ap (laid_at table at) (spanned_cons first last h) ∙ ap (λ k. laid_at (set table at (first % 65536)) (at + 1) (up_from (first + 1) k)) same
-
 -- one number
 laid_one : (table : List ℕ) (at first last : ℕ) → first ≡ last → set table at (first % 65536) ≡ laid_at table at (spanned first last)
 unfolding laid_at
 laid_one table at first last h = ap (laid_at table at) (sym (spanned_one first)) ∙ ap (λ n. laid_at table at (spanned first n)) h
 
--- the numbers before `n` are stored; the others go from `place` on
-pub record Storing (was : List ℕ) (at first last : ℕ) (out : List ℕ) (place n : ℕ) : Type 0 where
-  pub ordered : n ≤ last
+-- `left` numbers from `n` on go from `place` on
+pub record Storing (was : List ℕ) (at first last : ℕ) (out : List ℕ) (place n left : ℕ) : Type 0 where
   pub kept : length out ≡ length was
-  pub rest : laid_at was at (spanned first last) ≡ laid_at out place (spanned n last)
+  pub rest : laid_at was at (spanned first last) ≡ laid_at out place (up_from n left)
 
-module _ (was : List ℕ) (at first last : ℕ) (out : List ℕ) (place n : ℕ) (s : Storing was at first last out place n) where
+module _ (was : List ℕ) (at first last : ℕ) (out : List ℕ) (place n left : ℕ) (s : Storing was at first last out place n left) where
   pub stored_past : length out ≤ place → out ≡ laid_at was at (spanned first last)
-  stored_past h = sym (s.rest ∙ laid_past out place (spanned n last) h)
+  stored_past h = sym (s.rest ∙ laid_past out place (up_from n left) h)
 
-  module _ (v : ℕ) (narrowed : v ≡ n % 65536) where
-    pub storing_length : length (set out place v) ≡ length was
-    storing_length = length-set out place v ∙ s.kept
+  pub stored_all : left ≡ 0 → out ≡ laid_at was at (spanned first last)
+  unfolding laid_at up_from
+  stored_all h = sym (s.rest ∙ ap (λ k. laid_at out place (up_from n k)) h)
 
-    pub stored_last : n ≡ last → set out place v ≡ laid_at was at (spanned first last)
-    stored_last h =
-        ap (set out place) narrowed ∙ laid_one out place n last h ∙ sym s.rest
-
-    pub storing_more : (n ≡ last → ⊥) → Storing was at first last (set out place v) (place + 1) (n + 1)
-    storing_more h =
-        record {
-          ordered = omega (arith, lt_of_le_of_ne s.ordered h);
-          kept = storing_length;
-          rest = s.rest ∙ laid_first out place n last s.ordered ∙ ap (λ m. laid_at (set out place m) (place + 1) (spanned (n + 1) last)) (sym narrowed);
-        }
+  -- one more; where it was the last one, it does not matter where the others would begin
+  pub storing_more : (n' left' : ℕ) → left' + 1 ≡ left → (left' ≡ 0) ⊎ (n' ≡ n + 1) → Storing was at first last (set out place (n % 65536)) (place + 1) n' left'
+  unfolding laid_at up_from
+  storing_more n' left' one next =
+      let one_more : left ≡ suc left' = omega arith in
+      record {
+        kept = length-set out place (n % 65536) ∙ s.kept;
+        rest = s.rest ∙ ap (λ k. laid_at out place (up_from n k)) one_more ∙ ap (laid_at (set out place (n % 65536)) (place + 1)) (same next);
+      }
+    where
+      same : (left' ≡ 0) ⊎ (n' ≡ n + 1) → up_from (n + 1) left' ≡ up_from n' left'
+      same (inl e) = ap (up_from (n + 1)) e ∙ sym (ap (up_from n') e)
+      same (inr e) = ap (λ m. up_from m left') (sym e)
 
 pub run_more : (first last : ℕ) (xs was is is' : List ℕ) (listed r : Listed) → length is ≤ most_counted → HeldList xs was is listed
     → is' ≡ laid_at is listed.count (spanned first last) → (listed ≡ listed_of xs → r ≡ listed_of (xs ++ spanned first last))

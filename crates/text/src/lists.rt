@@ -39,7 +39,7 @@ fn entered(listed: Listed, first: u32, last: u32) -> Listed
     }
 }
 
-// A number is stored as far as the table is long.
+// A number is stored as far as the table is long, and of it what 16 bits hold.
 fn store(out: &mut [u16], at: usize, n: u32)
     ensures { out.new ≡ set out.old at (n % 65536) }
 {
@@ -53,15 +53,8 @@ fn store_run(out: &mut [u16], at: usize, first: u32, last: u32)
     requires { first ≤ last }
     ensures { out.new ≡ laid_at out.old at (spanned first last) }
 {
-    let mut place = at;
-    let mut n = first;
-    while place < out.len() {
+    for (place, n) in (at..out.len()).zip(first..=last) {
         out[place] = (n % 65536) as u16;
-        if n == last {
-            return;
-        }
-        n += 1;
-        place += 1;
     }
 }
 

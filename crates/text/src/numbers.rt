@@ -10,6 +10,7 @@ pub(crate) fn number_at(field: &[u8], at: usize) -> Option<(u32, usize)>
     ensures { result ≡ number_at field.now at }
 {
     let mut value = 0u32;
+    // The place is answered, too: a `for` would count it beside its own index.
     let mut end = at;
     while end < field.len() {
         let b = field[end];
