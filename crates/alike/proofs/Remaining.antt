@@ -17,11 +17,11 @@ use Rattle.atomset.proofs.Members.{member_members}
 use Rattle.alike.specs.Survivors.{Remain}
 
 -- those kept have the property, and those of the rest are still to be asked
-pub record Filtering (P : ℕ → Type 0) (alive kept rest : ℕ) : Type 0 where
-  pub small : rest < 2 ^ 64
+pub record Filtering (P : ℕ → Type 0) (alive kept : ℕ) (rest : List ℕ) : Type 0 where
+  pub small : alive < 2 ^ 64
   pub kept_in : (c : ℕ) → Member c kept → Member c alive × P c
-  pub rest_in : (c : ℕ) → Member c rest → Member c alive
-  pub others : (c : ℕ) → Member c alive → P c → Member c kept ⊎ Member c rest
+  pub rest_in : (c : ℕ) → c ∈ rest → Member c alive
+  pub others : (c : ℕ) → Member c alive → P c → Member c kept ⊎ (c ∈ rest)
 
 -- one more in a set
 pub member_insert : (set p set' : ℕ) → p < 64 → ((i : ℕ) → has set' i ≡ (has set i || (eqb i p && ltb p 64))) → (i : ℕ)
@@ -49,57 +49,54 @@ member_insert set p set' l e i = (λ m. to (has set i) refl (sym (e i) ∙ m), �
         or_true true = refl
         or_true false = refl
 
--- the members of a set: the first, and those of the rest
-pub member_walk : (set p rest : ℕ) → set < 2 ^ 64 → rest < 2 ^ 64 → members set ≡ p ∷ members rest → (i : ℕ) → Member i set ↔ ((i ≡ p) ⊎ Member i rest)
-member_walk set p rest s r walk i = (
-  λ m. ⊎_elim inl (λ k. inr ((member_members rest r i).1 k)) (Memᴰ.cases_cons (subst (λ (xs : List ℕ). i ∈ xs) walk ((member_members set s i).0 m))),
-  λ m. (member_members set s i).1 (subst (λ (xs : List ℕ). i ∈ xs) (sym walk) (⊎_elim Memᴰ.head (λ k. Memᴰ.tail ((member_members rest r i).0 k)) m)),
+-- what a list has: the first, and those of the rest
+pub in_walk : {xs rest : List ℕ} {p : ℕ} → xs ≡ p ∷ rest → (i : ℕ) → (i ∈ xs) ↔ ((i ≡ p) ⊎ (i ∈ rest))
+in_walk {xs} walk i = (
+  λ m. Memᴰ.cases_cons (subst (λ (ys : List ℕ). i ∈ ys) walk m),
+  λ m. subst (λ (ys : List ℕ). i ∈ ys) (sym walk) (⊎_elim Memᴰ.head Memᴰ.tail m),
 )
 
+-- nothing is left
+pub none_in : {xs : List ℕ} {i : ℕ} → xs ≡ [] → i ∈ xs → ⊥
+none_in {i = i} none m = Memᴰ.not-nil (subst (λ (ys : List ℕ). i ∈ ys) none m)
+
 module _ {P : ℕ → Type 0} {alive : ℕ} where
-  pub filtering_starts : alive < 2 ^ 64 → Filtering P alive 0 alive
-  filtering_starts s = record {
+  pub filtering_starts : {rest : List ℕ} → alive < 2 ^ 64 → rest ≡ members alive → Filtering P alive 0 rest
+  filtering_starts {rest} s e = record {
     small = s;
     kept_in = λ c m. absurd (false≢true (sym (has_zero c) ∙ m));
-    rest_in = λ c m. m;
-    others = λ c m p. inr m;
+    rest_in = λ c m. (member_members alive s c).1 (subst (λ (xs : List ℕ). c ∈ xs) e m);
+    others = λ c m p. inr (subst (λ (xs : List ℕ). c ∈ xs) (sym e) ((member_members alive s c).0 m));
   }
 
-  module _ {kept rest : ℕ} (f : Filtering P alive kept rest) {p rest' : ℕ} (small' : rest' < 2 ^ 64) (walk : members rest ≡ p ∷ members rest') where
-    its : (i : ℕ) → Member i rest ↔ ((i ≡ p) ⊎ Member i rest')
-    its = member_walk rest p rest' f.small small' walk
-
+  module _ {kept : ℕ} {rest : List ℕ} (f : Filtering P alive kept rest) {p : ℕ} {rest' : List ℕ} (walk : rest ≡ p ∷ rest') where
     -- the next one has the property
     pub filtering_keeps : {kept' : ℕ} → ((i : ℕ) → has kept' i ≡ (has kept i || (eqb i p && ltb p 64))) → P p → Filtering P alive kept' rest'
     filtering_keeps {kept'} more own = record {
-      small = small';
-      kept_in = λ c m. ⊎_elim (f.kept_in c) (λ (e : c ≡ p). subst (λ (x : ℕ). Member x alive × P x) (sym e) (f.rest_in p here, own)) ((put c).0 m);
-      rest_in = λ c m. f.rest_in c ((its c).1 (inr m));
-      others = λ c m o. ⊎_elim (λ k. inl ((put c).1 (inl k))) (λ k. ⊎_elim (λ e. inl ((put c).1 (inr e))) inr ((its c).0 k)) (f.others c m o);
+      small = f.small;
+      kept_in = λ c m. ⊎_elim (f.kept_in c) (λ (e : c ≡ p). subst (λ (x : ℕ). Member x alive × P x) (sym e) (here, own)) ((put c).0 m);
+      rest_in = λ c m. f.rest_in c ((in_walk walk c).1 (inr m));
+      others = λ c m o. ⊎_elim (λ k. inl ((put c).1 (inl k))) (λ k. ⊎_elim (λ e. inl ((put c).1 (inr e))) inr ((in_walk walk c).0 k)) (f.others c m o);
     }
       where
-        here : Member p rest
-        here = (its p).1 (inl refl)
+        here : Member p alive
+        here = f.rest_in p ((in_walk walk p).1 (inl refl))
 
         put : (i : ℕ) → Member i kept' ↔ (Member i kept ⊎ (i ≡ p))
-        put = member_insert kept p kept' (member_lt 64 rest p f.small here) more
+        put = member_insert kept p kept' (member_lt 64 alive p f.small here) more
 
     -- it has not
     pub filtering_drops : (P p → ⊥) → Filtering P alive kept rest'
     filtering_drops lacks = record {
-      small = small';
+      small = f.small;
       kept_in = f.kept_in;
-      rest_in = λ c m. f.rest_in c ((its c).1 (inr m));
-      others = λ c m o. ⊎_elim inl (λ k. ⊎_elim (λ (e : c ≡ p). absurd (lacks (subst P e o))) inr ((its c).0 k)) (f.others c m o);
+      rest_in = λ c m. f.rest_in c ((in_walk walk c).1 (inr m));
+      others = λ c m o. ⊎_elim inl (λ k. ⊎_elim (λ (e : c ≡ p). absurd (lacks (subst P e o))) inr ((in_walk walk c).0 k)) (f.others c m o);
     }
 
   -- all are asked
-  pub filtering_ends : {kept rest : ℕ} → Filtering P alive kept rest → members rest ≡ [] → Remain P alive kept
-  filtering_ends {kept} {rest} f none c = (
-    f.kept_in c,
-    λ (m, o). ⊎_elim (λ k. k) (λ k. absurd (Memᴰ.not-nil (subst (λ (xs : List ℕ). c ∈ xs) none ((member_members rest f.small c).0 k))))
-        (f.others c m o),
-  )
+  pub filtering_ends : {kept : ℕ} {rest : List ℕ} → Filtering P alive kept rest → rest ≡ [] → Remain P alive kept
+  filtering_ends f none c = (f.kept_in c, λ (m, o). ⊎_elim (λ k. k) (λ k. absurd (none_in none k)) (f.others c m o))
 
 -- what remains after n steps, each with a property of its own
 module _ (Q : ℕ → ℕ → Type 0) where

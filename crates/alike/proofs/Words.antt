@@ -3,17 +3,19 @@
 use Prim.Native.Nat.{ℕ, zero, suc, ◌+◌, ◌*◌, ◌/◌, ◌%◌, ◌^◌, ◌<◌}
 use native.Mathlib.Nat.{pow-suc}
 use native.Mathlib.Omega.{arith}
-use mathlib.Core.Bool.{Bool, true, false, cond}
+use mathlib.Core.Bool.{Bool, true, false, cond, ◌&&◌}
 use mathlib.Core.List.{List}
 use mathlib.Core.Logic.{◌↔◌}
 use mathlib.Core.Path.{◌≡◌, refl, sym, ap, subst, ◌∙◌}
-use borrow.Author.Tests.{lt-ltb, eqb-true}
+use borrow.Author.Tests.{lt-ltb, eqb-true, eq-eqb}
 use lib.Dec.{eqb, ltb}
 use lib.ListN.{get_or}
 use Rattle.equilibrium.specs.Formula.{Formula}
 use Rattle.equilibrium.specs.Meaning.{◌⊆◌}
 use Rattle.equilibrium.proofs.Satisfaction.{persists}
 use Rattle.format.specs.File.{Body}
+use Rattle.format.proofs.Booleans.{and_true}
+use Rattle.std.proofs.lemmas.Bool.{and_from}
 use Rattle.atomset.specs.AtomSet.{has, Included, members}
 use Rattle.atomset.proofs.Membership.{member_lt}
 use Rattle.atomset.proofs.Members.{member_members}
@@ -31,6 +33,27 @@ pub same_truth_lem : (a b : Bool) → (a ≡ true) ↔ (b ≡ true) → a ≡ b
 same_truth_lem true b e = sym (e.0 refl)
 same_truth_lem false true e = e.1 refl
 same_truth_lem false false e = refl
+
+-- two blocks are equal, by their words
+abbrev pub equal_words : Block → Block → Bool
+equal_words x y = eqb x.w0 y.w0 && (eqb x.w1 y.w1 && (eqb x.w2 y.w2 && eqb x.w3 y.w3))
+
+equal_iff : (x y : Block) → (equal_words x y ≡ true) ↔ SameWords x y
+equal_iff x y = (
+  λ e.
+      let p = and_true (eqb x.w0 y.w0) (eqb x.w1 y.w1 && (eqb x.w2 y.w2 && eqb x.w3 y.w3)) e in
+      let q = and_true (eqb x.w1 y.w1) (eqb x.w2 y.w2 && eqb x.w3 y.w3) p.1 in
+      let r = and_true (eqb x.w2 y.w2) (eqb x.w3 y.w3) q.1 in
+      record { w0 = eqb-true _ _ p.0; w1 = eqb-true _ _ q.0; w2 = eqb-true _ _ r.0; w3 = eqb-true _ _ r.1 },
+  λ s. and_from _ _ (eq-eqb _ _ s.w0) (and_from _ _ (eq-eqb _ _ s.w1) (and_from _ _ (eq-eqb _ _ s.w2) (eq-eqb _ _ s.w3))),
+)
+
+-- and two more
+pub both_equal : (x y z w : Block) {r : Bool} → r ≡ (equal_words x y && equal_words z w) → (r ≡ true) ↔ (SameWords x y × SameWords z w)
+both_equal x y z w e = (
+  λ t. let p = and_true (equal_words x y) (equal_words z w) (sym e ∙ t) in ((equal_iff x y).0 p.0, (equal_iff z w).0 p.1),
+  λ (p, q). e ∙ and_from _ _ ((equal_iff x y).1 p) ((equal_iff z w).1 q),
+)
 
 -- a word of k digits with those given
 pub record WordOf (k : ℕ) (f : ℕ → Bool) : Type 0 where

@@ -1,13 +1,13 @@
 // Truths in 256 pairs at once, one digit of a block for each pair, and a table of such truths. What is done to a block is done word by
 // word, in straight lines: the compiler then takes two words at a time.
-ghost use Rattle.std.specs.Prelude.{◌+◌, ◌*◌, ◌≤◌, ◌↔◌, true, ◌≡◌, length};
+ghost use Rattle.std.specs.Prelude.{◌+◌, ◌*◌, ◌≤◌, ◌≡◌, length};
 ghost use Rattle.std.proofs.lemmas.List.Edits.{sets};
-ghost use Rattle.alike.specs.Blocks.{words_of, all_of, both_of, SameWords, joined_of, raised_of, joined_truth, here_in, also_in, truth_in, Roomy, TruthPut};
+ghost use Rattle.alike.specs.Blocks.{words_of, all_of, both_of, joined_of, raised_of, joined_truth, here_in, also_in, truth_in, Roomy, TruthPut};
 
 use known::index::note;
 
 // Digit n of a block is digit n % 64 of word n / 64.
-#[derive(Clone, Copy)]
+#[derive(Clone, Copy, PartialEq, Eq)]
 pub(crate) struct Block {
     pub w0: u64,
     pub w1: u64,
@@ -84,32 +84,6 @@ fn raised(x: Block, word: u64) -> Block
     }
 }
 
-// Whether two blocks have the same words.
-fn same(x: Block, y: Block) -> bool
-    ensures { (result ≡ true) ↔ SameWords x y }
-{
-    if x.w0 != y.w0 {
-        return false;
-    }
-    if x.w1 != y.w1 {
-        return false;
-    }
-    if x.w2 != y.w2 {
-        return false;
-    }
-    x.w3 == y.w3
-}
-
-// Whether two blocks and two more have.
-pub(crate) fn same_both(x: Block, y: Block, z: Block, w: Block) -> bool
-    ensures { (result ≡ true) ↔ (SameWords x y × SameWords z w) }
-{
-    if !same(x, y) {
-        return false;
-    }
-    same(z, w)
-}
-
 // Two truths so joined.
 pub(crate) fn joined_truth(x: Truth, y: Truth, signs: Signs) -> Truth
     ensures { result ≡ joined_truth signs x y }
@@ -155,7 +129,7 @@ pub(crate) fn truth_in(table: &[u64], slot: usize) -> Truth
 pub(crate) fn here_in(table: &[u64], slot: u16) -> Block
     ensures { result ≡ here_in table.now slot }
 {
-    let at = TRUTH_WORDS * (slot as usize);
+    let at = TRUTH_WORDS * (usize::from(slot));
     Block {
         w0: note(table, at),
         w1: note(table, at + 1),
@@ -167,7 +141,7 @@ pub(crate) fn here_in(table: &[u64], slot: u16) -> Block
 pub(crate) fn also_in(table: &[u64], slot: u16) -> Block
     ensures { result ≡ also_in table.now slot }
 {
-    let at = TRUTH_WORDS * (slot as usize);
+    let at = TRUTH_WORDS * (usize::from(slot));
     Block {
         w0: note(table, at + 4),
         w1: note(table, at + 5),

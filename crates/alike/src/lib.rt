@@ -9,17 +9,18 @@ pub mod survivors;
 mod truths;
 mod under;
 
-ghost use Rattle.std.specs.Prelude.{◌^◌, ◌≤◌, ◌<◌, length};
-ghost use Rattle.format.specs.Tables.{most_formulas};
+ghost use Rattle.std.specs.Prelude.{◌*◌, ◌^◌, ◌≤◌, ◌<◌, length};
+ghost use Rattle.format.specs.Tables.{node_width};
+ghost use Rattle.alike.specs.Blocks.{truth_words};
 ghost use Rattle.alike.specs.Under.{Room};
-ghost use Rattle.alike.specs.Survivors.{most_places, few_listed, AnyListed};
+ghost use Rattle.alike.specs.Survivors.{most_places, AnyListed};
 ghost use Rattle.alike.specs.Alike.{CandidatesMarked, Bounded, SomeAlike};
 
 use crate::places::outer_places;
 use crate::steps::fill_steps;
 use crate::survivors::{any_alike, formula_at};
 use crate::under::{list_under, mark};
-use atomset::{first, is_empty, without_first};
+use atomset::members_of;
 use counts::limits::MOST_FORMULAS;
 use pairs::past_largest;
 
@@ -42,10 +43,8 @@ const MOST_NUMBERS: usize = 3072;
 fn mark_candidates(side: &[u16], candidates: u64, marks: &mut [u8])
     ensures { CandidatesMarked side.now candidates marks.old marks.new }
 {
-    let mut rest = candidates;
-    while !is_empty(rest) {
-        mark(marks, formula_at(side, first(rest)), MOST_FORMULAS);
-        rest = without_first(rest);
+    for c in members_of(candidates) {
+        mark(marks, formula_at(side, c), MOST_FORMULAS);
     }
 }
 
@@ -66,8 +65,9 @@ fn end_of(own: usize, side: &[u16]) -> usize
     own + 1
 }
 
-// Whether one of the candidates holds in the same pairs of places as the formula, where the list is short.
-fn alike_few(
+// Whether one of the candidates holds in the same pairs of places as the formula, with a table of so many words for the truths of what
+// is listed and so many numbers for its steps.
+fn alike_in<const WORDS: usize, const NUMBERS: usize>(
     formulas: &[u16],
     list: &[u16],
     slots: &[u16],
@@ -77,43 +77,13 @@ fn alike_few(
     side: &[u16],
     candidates: u64,
 ) -> bool
-    requires { (outer < 2 ^ most_places) × (length list.now ≤ few_listed) }
+    requires sizes { (WORDS < 2 ^ 60) × (NUMBERS < 2 ^ 60) }
+    requires room { (outer < 2 ^ most_places) × (truth_words * length list.now ≤ WORDS) × (node_width * length list.now ≤ NUMBERS) }
     ensures { AnyListed formulas.now list.now slots.now places.now outer own side.now
         candidates result }
 {
-    let mut table = [0u64; FEW_WORDS];
-    let mut steps = [0u16; FEW_NUMBERS];
-    fill_steps(formulas, list, slots, &mut steps);
-    any_alike(
-        &steps,
-        list.len(),
-        slots,
-        places,
-        outer,
-        own,
-        side,
-        candidates,
-        &mut table,
-    )
-}
-
-// The same, whatever is listed.
-fn alike_many(
-    formulas: &[u16],
-    list: &[u16],
-    slots: &[u16],
-    places: &[u64],
-    outer: u64,
-    own: usize,
-    side: &[u16],
-    candidates: u64,
-) -> bool
-    requires { (outer < 2 ^ most_places) × (length list.now ≤ most_formulas) }
-    ensures { AnyListed formulas.now list.now slots.now places.now outer own side.now
-        candidates result }
-{
-    let mut table = [0u64; MOST_WORDS];
-    let mut steps = [0u16; MOST_NUMBERS];
+    let mut table = [0u64; WORDS];
+    let mut steps = [0u16; NUMBERS];
     fill_steps(formulas, list, slots, &mut steps);
     any_alike(
         &steps,
@@ -149,7 +119,7 @@ fn alike_with(
     let n = list_under(formulas, end, marks, list, slots);
     let outer = outer_places(width);
     if n <= FEW_LISTED {
-        return alike_few(
+        return alike_in::<FEW_WORDS, FEW_NUMBERS>(
             formulas,
             &list[..n],
             slots,
@@ -160,7 +130,7 @@ fn alike_with(
             candidates,
         );
     }
-    alike_many(
+    alike_in::<MOST_WORDS, MOST_NUMBERS>(
         formulas,
         &list[..n],
         slots,

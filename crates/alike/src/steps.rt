@@ -3,16 +3,13 @@
 ghost use Rattle.std.specs.Prelude.{◌≡◌, get_or};
 ghost use Rattle.alike.specs.Under.{last_part, step_of, StepsFilled};
 
-use tables::records::{NOT, NodeRecord, node, put_node, wide};
+use tables::records::{NOT, NodeRecord, node, put_node};
 
 // The entry of a list at a place, 0 past its end. Of the slots it is that of a formula.
 pub(crate) fn entry_of(list: &[u16], at: usize) -> u16
     ensures { result ≡ get_or list.now at 0 }
 {
-    if at >= list.len() {
-        return 0;
-    }
-    list[at]
+    list.get(at).copied().unwrap_or(0)
 }
 
 // The last part of a formula: a negation has one alone.
@@ -34,8 +31,8 @@ fn step_of(key: NodeRecord, slots: &[u16]) -> NodeRecord
     }
     NodeRecord {
         word: key.word,
-        first: entry_of(slots, wide(key.first)),
-        second: entry_of(slots, wide(last_part(key))),
+        first: entry_of(slots, usize::from(key.first)),
+        second: entry_of(slots, usize::from(last_part(key))),
     }
 }
 
@@ -43,9 +40,7 @@ fn step_of(key: NodeRecord, slots: &[u16]) -> NodeRecord
 pub(crate) fn fill_steps(formulas: &[u16], list: &[u16], slots: &[u16], steps: &mut [u16])
     ensures { StepsFilled formulas.now list.now slots.now steps.old steps.new }
 {
-    let mut k = 0;
-    while k < list.len() {
-        put_node(steps, k, step_of(node(formulas, wide(list[k])), slots));
-        k += 1;
+    for (k, &i) in list.iter().enumerate() {
+        put_node(steps, k, step_of(node(formulas, usize::from(i)), slots));
     }
 }

@@ -1,22 +1,21 @@
 // Which of some candidates hold in the same pairs as one formula. A candidate is a place on a side, and a set of them one word. All pairs
 // of the places 0 to 7 are gone through, 256 at a time: t runs through the parts of the places from 5 on that are in use, and h through
 // the parts of t, two at a time. A candidate is dropped at the first blocks in which it differs.
-ghost use Rattle.std.specs.Prelude.{ℕ, ◌^◌, ◌<◌, min, ◌↔◌, ◌≡◌, get_or};
+ghost use Rattle.std.specs.Prelude.{ℕ, ◌^◌, ◌<◌, ◌↔◌, ◌≡◌, get_or};
 ghost use Rattle.atomset.specs.AtomSet.{Member};
 ghost use Rattle.alike.specs.Survivors.{SameHere, most_places, RoomFor, AlikeBelow, AlikeAll, AnyAlike};
 
-use crate::blocks::{also_in, here_in, same_both};
+use crate::blocks::{also_in, here_in};
 use crate::steps::entry_of;
 use crate::truths::judge_listed;
-use atomset::{count, first, insert, is_empty, without_first};
+use atomset::{count, insert, is_empty, members_of};
 use pairs::part_of;
-use tables::records::wide;
 
 // The formula of a candidate, 0 where there is none.
 pub fn formula_at(side: &[u16], candidate: usize) -> usize
     ensures { result ≡ get_or side.now candidate 0 }
 {
-    wide(entry_of(side, candidate))
+    usize::from(entry_of(side, candidate))
 }
 
 // The candidates whose words are those of the formula.
@@ -26,26 +25,13 @@ fn still_alike(table: &[u64], slots: &[u16], own: usize, side: &[u16], alive: u6
     let here = here_in(table, entry_of(slots, own));
     let also = also_in(table, entry_of(slots, own));
     let mut kept = 0;
-    let mut rest = alive;
-    while !is_empty(rest) {
-        let c = first(rest);
-        rest = without_first(rest);
+    for c in members_of(alive) {
         let slot = entry_of(slots, formula_at(side, c));
-        if same_both(here_in(table, slot), here, also_in(table, slot), also) {
+        if (here_in(table, slot), also_in(table, slot)) == (here, also) {
             kept = insert(kept, c);
         }
     }
     kept
-}
-
-// The less of two numbers.
-fn less_of(a: u64, b: u64) -> u64
-    ensures { result ≡ min a b }
-{
-    if a < b {
-        return a;
-    }
-    b
 }
 
 // The candidates that are alike with one t, in all its parts h.
@@ -66,15 +52,13 @@ fn alike_below(
 {
     let last = 1u64 << count(t);
     let mut kept = alive;
-    let mut n = 0;
-    while n < last {
+    for n in (0..last).step_by(2) {
         if is_empty(kept) {
             return 0;
         }
-        let next = part_of(t, less_of(n + 1, last - 1));
+        let next = part_of(t, (n + 1).min(last - 1));
         judge_listed(steps, listed, places, part_of(t, n), next, t, table);
         kept = still_alike(table, slots, own, side, kept);
-        n += 2;
     }
     kept
 }
@@ -97,8 +81,7 @@ fn alike_all(
 {
     let last = 1u64 << count(outer);
     let mut kept = alive;
-    let mut m = 0;
-    while m < last {
+    for m in 0..last {
         if is_empty(kept) {
             return 0;
         }
@@ -113,7 +96,6 @@ fn alike_all(
             kept,
             table,
         );
-        m += 1;
     }
     kept
 }

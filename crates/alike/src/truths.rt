@@ -13,7 +13,7 @@ use crate::blocks::{
 };
 use atomset::contains;
 use known::index::note;
-use tables::records::{AND, ATOM, IMP, NOT, NodeRecord, OR, node, wide};
+use tables::records::{AND, ATOM, IMP, NOT, NodeRecord, OR, node};
 
 // A word of nothing but ones if so, and else of zeros.
 fn ones_if(yes: bool) -> u64
@@ -139,10 +139,11 @@ fn within(slot: u16, rooms: usize) -> usize
     requires { 0 < rooms }
     ensures { (result < rooms) × (slot < rooms → result ≡ slot) }
 {
-    if wide(slot) >= rooms {
+    let at = usize::from(slot);
+    if at >= rooms {
         return 0;
     }
-    wide(slot)
+    at
 }
 
 // The signs of a connective.
@@ -167,7 +168,7 @@ fn judge(step: NodeRecord, places: &[u64], h: u64, g: u64, t: u64, k: usize, tab
         put_truth(
             table,
             k,
-            truth_of_place(note(places, wide(step.first)), h, g, t),
+            truth_of_place(note(places, usize::from(step.first)), h, g, t),
         );
         return;
     }
@@ -196,9 +197,7 @@ pub(crate) fn judge_listed(
     if listed > table.len() / TRUTH_WORDS {
         return;
     }
-    let mut k = listed;
-    while 0 < k {
-        k -= 1;
+    for k in (0..listed).rev() {
         judge(node(steps, k), places, h, g, t, k, table);
     }
 }

@@ -5,7 +5,7 @@ ghost use Rattle.std.specs.Prelude.{◌≤◌};
 ghost use Rattle.format.specs.Tables.{most_formulas};
 ghost use Rattle.alike.specs.Under.{MarkedBefore, PartsMarked, Room, Listed};
 
-use tables::records::{AND, NOT, narrow_place, node, wide};
+use tables::records::{AND, NOT, narrow_place, node};
 
 // Marks a formula, if it is before `end`.
 pub(crate) fn mark(marks: &mut [u8], formula: usize, end: usize)
@@ -28,11 +28,11 @@ fn mark_parts(formulas: &[u16], formula: usize, marks: &mut [u8])
     if key.word < NOT {
         return;
     }
-    mark(marks, wide(key.first), formula);
+    mark(marks, usize::from(key.first), formula);
     if key.word < AND {
         return;
     }
-    mark(marks, wide(key.second), formula);
+    mark(marks, usize::from(key.second), formula);
 }
 
 // Lists the formulas under those that are marked, all of which are before `end`, notes their slots, and answers how many they are.
@@ -47,9 +47,7 @@ pub(crate) fn list_under(
     ensures { Listed formulas.now end marks.old list.new slots.new result }
 {
     let mut count = 0;
-    let mut i = end;
-    while 0 < i {
-        i -= 1;
+    for i in (0..end).rev() {
         if marks[i] == 1 {
             mark_parts(formulas, i, marks);
             list[count] = narrow_place(i);

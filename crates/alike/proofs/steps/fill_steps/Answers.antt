@@ -16,7 +16,7 @@ loop-k-preserved c =
     let formulas = args.formulas.now in
     next_filled formulas args.list.now args.slots.now args.steps.now c.loop-k.invariant c.loop-k-test.true _
     (c.step_of.ensures ∙ ap (step_of args.slots.now) (c.node.ensures
-    ∙ ap (λ (i : ℕ). record_from (node_at formulas i)) c.wide.ensures)) c.put_node.ensures
+    ∙ ap (λ (i : ℕ). record_from (node_at formulas i)) c.from.ensures)) c.put_node.ensures
 
 pub shape_of-steps : goal.shape_of-steps
 shape_of-steps c = c.loop-k.invariant.long

@@ -15,6 +15,6 @@ returns c =
     let key = c.args.key in
     let slots = c.args.slots.now in
     ap₂ (λ (x y : ℕ). record { word = key.word; first = x; second = y })
-    (c.entry_of.ensures ∙ ap (slot_of slots) c.wide.ensures)
-    (c.entry_of-2.ensures ∙ ap (slot_of slots) (c.wide-2.ensures ∙ c.last_part.ensures))
+    (c.entry_of.ensures ∙ ap (slot_of slots) c.from.ensures)
+    (c.entry_of-2.ensures ∙ ap (slot_of slots) (c.from-2.ensures ∙ c.last_part.ensures))
     ∙ sym (step_with slots key c.if-key-lt-NOT.false)

@@ -3,4 +3,4 @@ use mathlib.Core.Path.{◌∙◌}
 use Rattle.alike.proofs.survivors.formula_at.Goals as goal
 
 pub returns : goal.returns
-returns c = c.wide.ensures ∙ c.entry_of.ensures
+returns c = c.from.ensures ∙ c.entry_of.ensures

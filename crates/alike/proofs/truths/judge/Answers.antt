@@ -10,7 +10,7 @@ pub returns-then-step-eq-ATOM : goal.returns-then-step-eq-ATOM
 returns-then-step-eq-ATOM c =
     let args = c.args in
     let places = args.places.now in
-    let is = c.note.ensures ∙ ap (place_of places) c.wide.ensures in
+    let is = c.note.ensures ∙ ap (place_of places) c.from.ensures in
     judged_simple args.step places args.h args.g args.t args.k args.table.now c.put_truth.ensures (record {
       first = of_atom args.step places _ _ args.h args.t c.if-step-eq-ATOM.true _ _ is c.truth_of_place.ensures.first;
       second = of_atom args.step places _ _ args.g args.t c.if-step-eq-ATOM.true _ _ is c.truth_of_place.ensures.second;

@@ -51,12 +51,12 @@ pub shape_of-marks-then-key-lt-AND : goal.shape_of-marks-then-key-lt-AND
 shape_of-marks-then-key-lt-AND c = c.mark.ensures.long
 
 pub returns-then-key-lt-AND : goal.returns-then-key-lt-AND
-returns-then-key-lt-AND c = one_marked c.node-key.ensures c.wide.ensures c.if-key-lt-AND.true c.mark.ensures
+returns-then-key-lt-AND c = one_marked c.node-key.ensures c.from.ensures c.if-key-lt-AND.true c.mark.ensures
 
 pub shape_of-marks : goal.shape_of-marks
 shape_of-marks c = c.mark-2.ensures.long ∙ c.mark.ensures.long
 
 pub returns : goal.returns
 returns c =
-    two_marked c.node-key.ensures c.wide.ensures c.wide-2.ensures c.mark.ensures
+    two_marked c.node-key.ensures c.from.ensures c.from-2.ensures c.mark.ensures
     c.mark-2.ensures
