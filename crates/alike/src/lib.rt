@@ -17,8 +17,8 @@ ghost use Rattle.alike.specs.Survivors.{most_places, AnyListed};
 ghost use Rattle.alike.specs.Alike.{CandidatesMarked, Bounded, SomeAlike};
 
 use crate::places::outer_places;
-use crate::steps::fill_steps;
-use crate::survivors::{any_alike, formula_at};
+use crate::steps::{Steps, fill_steps};
+use crate::survivors::{Question, any_alike, formula_at};
 use crate::under::{list_under, mark};
 use atomset::members_of;
 use counts::limits::MOST_FORMULAS;
@@ -73,49 +73,41 @@ fn alike_in<const WORDS: usize, const NUMBERS: usize>(
     slots: &[u16],
     places: &[u64],
     outer: u64,
-    own: usize,
-    side: &[u16],
-    candidates: u64,
+    question: Question<'_>,
 ) -> bool
     requires sizes { (WORDS < 2 ^ 60) × (NUMBERS < 2 ^ 60) }
     requires room { (outer < 2 ^ most_places) × (truth_words * length list.now ≤ WORDS) × (node_width * length list.now ≤ NUMBERS) }
-    ensures { AnyListed formulas.now list.now slots.now places.now outer own side.now
-        candidates result }
+    ensures { AnyListed formulas.now list.now slots.now places.now outer question.entry.own question.entry.side.now
+        question.entry.candidates result }
 {
     let mut table = [0u64; WORDS];
-    let mut steps = [0u16; NUMBERS];
-    fill_steps(formulas, list, slots, &mut steps);
-    any_alike(
-        &steps,
-        list.len(),
+    let mut records = [0u16; NUMBERS];
+    fill_steps(formulas, list, slots, &mut records);
+    let steps = Steps {
+        records: &records,
+        count: list.len(),
         slots,
         places,
-        outer,
-        own,
-        side,
-        candidates,
-        &mut table,
-    )
+    };
+    any_alike(steps, outer, question, &mut table)
 }
 
 // Whether one of the candidates is equal to the formula, where the atoms of both have places of their own; with room for the list.
 fn alike_with(
     formulas: &[u16],
-    own: usize,
     places: &[u64],
     width: usize,
-    side: &[u16],
-    candidates: u64,
+    question: Question<'_>,
     marks: &mut [u8],
     list: &mut [u16],
     slots: &mut [u16],
 ) -> bool
     requires { (width ≤ most_places) × Room marks.old list.old slots.old }
-    ensures { SomeAlike formulas.now own places.now width side.now candidates result }
+    ensures { SomeAlike formulas.now question.entry.own places.now width question.entry.side.now question.entry.candidates result }
 {
-    let end = end_of(own, side);
-    mark(marks, own, MOST_FORMULAS);
-    mark_candidates(side, candidates, marks);
+    let end = end_of(question.own, question.side);
+    mark(marks, question.own, MOST_FORMULAS);
+    mark_candidates(question.side, question.candidates, marks);
     let n = list_under(formulas, end, marks, list, slots);
     let outer = outer_places(width);
     if n <= FEW_LISTED {
@@ -125,34 +117,16 @@ fn alike_with(
             slots,
             places,
             outer,
-            own,
-            side,
-            candidates,
+            question,
         );
     }
-    alike_in::<MOST_WORDS, MOST_NUMBERS>(
-        formulas,
-        &list[..n],
-        slots,
-        places,
-        outer,
-        own,
-        side,
-        candidates,
-    )
+    alike_in::<MOST_WORDS, MOST_NUMBERS>(formulas, &list[..n], slots, places, outer, question)
 }
 
 // Whether one of the candidates is equal to the formula, where the atoms of both have places of their own below `width`; false where there
 // are more places than 8.
-pub fn some_alike(
-    formulas: &[u16],
-    own: usize,
-    places: &[u64],
-    width: usize,
-    side: &[u16],
-    candidates: u64,
-) -> bool
-    ensures { SomeAlike formulas.now own places.now width side.now candidates result }
+pub fn some_alike(formulas: &[u16], places: &[u64], width: usize, question: Question<'_>) -> bool
+    ensures { SomeAlike formulas.now question.entry.own places.now width question.entry.side.now question.entry.candidates result }
 {
     if width > MOST_PLACES {
         return false;
@@ -161,6 +135,6 @@ pub fn some_alike(
     let mut list = [0u16; MOST_FORMULAS];
     let mut slots = [0u16; MOST_FORMULAS];
     alike_with(
-        formulas, own, places, width, side, candidates, &mut marks, &mut list, &mut slots,
+        formulas, places, width, question, &mut marks, &mut list, &mut slots,
     )
 }

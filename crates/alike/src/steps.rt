@@ -5,6 +5,15 @@ ghost use Rattle.alike.specs.Under.{last_part, step_of, StepsFilled};
 
 use tables::records::{NOT, NodeRecord, node, put_node};
 
+// The steps of so many listed formulas, with the slots of formulas and the places of atoms.
+#[derive(Clone, Copy)]
+pub(crate) struct Steps<'a> {
+    pub records: &'a [u16],
+    pub count: usize,
+    pub slots: &'a [u16],
+    pub places: &'a [u64],
+}
+
 // The entry of a list at a place, 0 past its end. Of the slots it is that of a formula.
 pub(crate) fn entry_of(list: &[u16], at: usize) -> u16
     ensures { result ≡ get_or list.now at 0 }

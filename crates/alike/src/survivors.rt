@@ -6,10 +6,18 @@ ghost use Rattle.atomset.specs.AtomSet.{Member};
 ghost use Rattle.alike.specs.Survivors.{SameHere, most_places, RoomFor, AlikeBelow, AlikeAll, AnyAlike};
 
 use crate::blocks::{also_in, here_in};
-use crate::steps::entry_of;
-use crate::truths::judge_listed;
+use crate::steps::{Steps, entry_of};
+use crate::truths::{Sets, judge_listed};
 use atomset::{count, insert, is_empty, members_of};
 use pairs::part_of;
+
+// What is asked: whether one of the candidates, places on the side, is alike with formula `own`.
+#[derive(Clone, Copy)]
+pub struct Question<'a> {
+    pub own: usize,
+    pub side: &'a [u16],
+    pub candidates: u64,
+}
 
 // The formula of a candidate, 0 where there is none.
 pub fn formula_at(side: &[u16], candidate: usize) -> usize
@@ -19,14 +27,16 @@ pub fn formula_at(side: &[u16], candidate: usize) -> usize
 }
 
 // The candidates whose words are those of the formula.
-fn still_alike(table: &[u64], slots: &[u16], own: usize, side: &[u16], alive: u64) -> u64
-    ensures { (c : ℕ) → Member c result ↔ (Member c alive × SameHere table.now slots.now own (get_or side.now c 0)) }
+fn still_alike(table: &[u64], slots: &[u16], question: Question<'_>) -> u64
+    ensures { (c : ℕ) → Member c result ↔ (Member c question.entry.candidates × SameHere table.now slots.now question.entry.own
+        (get_or question.entry.side.now c 0)) }
 {
-    let here = here_in(table, entry_of(slots, own));
-    let also = also_in(table, entry_of(slots, own));
+    let own = entry_of(slots, question.own);
+    let here = here_in(table, own);
+    let also = also_in(table, own);
     let mut kept = 0;
-    for c in members_of(alive) {
-        let slot = entry_of(slots, formula_at(side, c));
+    for c in members_of(question.candidates) {
+        let slot = entry_of(slots, formula_at(question.side, c));
         if (here_in(table, slot), also_in(table, slot)) == (here, also) {
             kept = insert(kept, c);
         }
@@ -35,65 +45,58 @@ fn still_alike(table: &[u64], slots: &[u16], own: usize, side: &[u16], alive: u6
 }
 
 // The candidates that are alike with one t, in all its parts h.
-fn alike_below(
-    steps: &[u16],
-    listed: usize,
-    slots: &[u16],
-    places: &[u64],
-    t: u64,
-    own: usize,
-    side: &[u16],
-    alive: u64,
-    table: &mut [u64],
-) -> u64
+fn alike_below(steps: Steps<'_>, t: u64, question: Question<'_>, table: &mut [u64]) -> u64
     requires { t < 2 ^ most_places }
-    ensures { AlikeBelow steps.now listed slots.now places.now t own side.now alive
-        table.old table.new result }
+    ensures { AlikeBelow steps.entry.records.now steps.entry.count steps.entry.slots.now steps.entry.places.now t question.entry.own question.entry.side.now
+        question.entry.candidates table.old table.new result }
 {
     let last = 1u64 << count(t);
-    let mut kept = alive;
+    let mut kept = question.candidates;
     for n in (0..last).step_by(2) {
         if is_empty(kept) {
             return 0;
         }
         let next = part_of(t, (n + 1).min(last - 1));
-        judge_listed(steps, listed, places, part_of(t, n), next, t, table);
-        kept = still_alike(table, slots, own, side, kept);
+        judge_listed(
+            steps,
+            Sets {
+                h: part_of(t, n),
+                g: next,
+                t,
+            },
+            table,
+        );
+        kept = still_alike(
+            table,
+            steps.slots,
+            Question {
+                candidates: kept,
+                ..question
+            },
+        );
     }
     kept
 }
 
 // The candidates that are alike in all pairs.
-fn alike_all(
-    steps: &[u16],
-    listed: usize,
-    slots: &[u16],
-    places: &[u64],
-    outer: u64,
-    own: usize,
-    side: &[u16],
-    alive: u64,
-    table: &mut [u64],
-) -> u64
+fn alike_all(steps: Steps<'_>, outer: u64, question: Question<'_>, table: &mut [u64]) -> u64
     requires { outer < 2 ^ most_places }
-    ensures { AlikeAll steps.now listed slots.now places.now outer own side.now alive
-        table.old result }
+    ensures { AlikeAll steps.entry.records.now steps.entry.count steps.entry.slots.now steps.entry.places.now outer question.entry.own question.entry.side.now
+        question.entry.candidates table.old result }
 {
     let last = 1u64 << count(outer);
-    let mut kept = alive;
+    let mut kept = question.candidates;
     for m in 0..last {
         if is_empty(kept) {
             return 0;
         }
         kept = alike_below(
             steps,
-            listed,
-            slots,
-            places,
             part_of(outer, m),
-            own,
-            side,
-            kept,
+            Question {
+                candidates: kept,
+                ..question
+            },
             table,
         );
     }
@@ -102,21 +105,14 @@ fn alike_all(
 
 // Whether one of the candidates is alike in all pairs.
 pub(crate) fn any_alike(
-    steps: &[u16],
-    listed: usize,
-    slots: &[u16],
-    places: &[u64],
+    steps: Steps<'_>,
     outer: u64,
-    own: usize,
-    side: &[u16],
-    candidates: u64,
+    question: Question<'_>,
     table: &mut [u64],
 ) -> bool
-    requires { (outer < 2 ^ most_places) × RoomFor listed table.old }
-    ensures { AnyAlike steps.now listed slots.now places.now outer own side.now
-        candidates result }
+    requires { (outer < 2 ^ most_places) × RoomFor steps.count table.old }
+    ensures { AnyAlike steps.entry.records.now steps.entry.count steps.entry.slots.now steps.entry.places.now outer question.entry.own question.entry.side.now
+        question.entry.candidates result }
 {
-    !is_empty(alike_all(
-        steps, listed, slots, places, outer, own, side, candidates, table,
-    ))
+    !is_empty(alike_all(steps, outer, question, table))
 }

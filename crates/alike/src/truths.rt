@@ -11,9 +11,18 @@ ghost use Rattle.alike.specs.Truths.{PlaceTruth, Signed, JudgedNext, JudgedAll};
 use crate::blocks::{
     Block, Signs, TRUTH_WORDS, Truth, all_of_one, joined_truth, put_truth, truth_in,
 };
+use crate::steps::Steps;
 use atomset::contains;
 use known::index::note;
 use tables::records::{AND, ATOM, IMP, NOT, NodeRecord, OR, node};
+
+// The sets of 256 pairs (h,t) and as many pairs (g,t).
+#[derive(Clone, Copy)]
+pub(crate) struct Sets {
+    pub h: u64,
+    pub g: u64,
+    pub t: u64,
+}
 
 // A word of nothing but ones if so, and else of zeros.
 fn ones_if(yes: bool) -> u64
@@ -44,8 +53,8 @@ fn at_all(here: Block, there: Block) -> Truth
 }
 
 // The truth of the atoms at a place.
-fn truth_of_place(place: u64, h: u64, g: u64, t: u64) -> Truth
-    ensures { PlaceTruth place h g t result }
+fn truth_of_place(place: u64, sets: Sets) -> Truth
+    ensures { PlaceTruth place sets.h sets.g sets.t result }
 {
     if place == 0 {
         return at_all(
@@ -128,9 +137,9 @@ fn truth_of_place(place: u64, h: u64, g: u64, t: u64) -> Truth
         );
     }
     Truth {
-        here: spread(h, place),
-        also: spread(g, place),
-        there: spread(t, place),
+        here: spread(sets.h, place),
+        also: spread(sets.g, place),
+        there: spread(sets.t, place),
     }
 }
 
@@ -160,15 +169,15 @@ fn signs_of(connective: u16) -> Signs
 
 // Puts the truth of a step at slot k, by those at the slots of its parts. All connectives take one way: jumps by the connective are
 // guessed wrong so often that they take as long as all else.
-fn judge(step: NodeRecord, places: &[u64], h: u64, g: u64, t: u64, k: usize, table: &mut [u64])
+fn judge(step: NodeRecord, places: &[u64], sets: Sets, k: usize, table: &mut [u64])
     requires { Roomy table.old k }
-    ensures { JudgedNext step places.now h g t k table.old table.new }
+    ensures { JudgedNext step places.now sets.h sets.g sets.t k table.old table.new }
 {
     if step.word == ATOM {
         put_truth(
             table,
             k,
-            truth_of_place(note(places, usize::from(step.first)), h, g, t),
+            truth_of_place(note(places, usize::from(step.first)), sets),
         );
         return;
     }
@@ -183,21 +192,13 @@ fn judge(step: NodeRecord, places: &[u64], h: u64, g: u64, t: u64, k: usize, tab
 }
 
 // Puts the truths of the first steps at their slots, the last one first.
-pub(crate) fn judge_listed(
-    steps: &[u16],
-    listed: usize,
-    places: &[u64],
-    h: u64,
-    g: u64,
-    t: u64,
-    table: &mut [u64],
-)
-    ensures { JudgedAll steps.now listed places.now h g t table.old table.new }
+pub(crate) fn judge_listed(steps: Steps<'_>, sets: Sets, table: &mut [u64])
+    ensures { JudgedAll steps.entry.records.now steps.entry.count steps.entry.places.now sets.h sets.g sets.t table.old table.new }
 {
-    if listed > table.len() / TRUTH_WORDS {
+    if steps.count > table.len() / TRUTH_WORDS {
         return;
     }
-    for k in (0..listed).rev() {
-        judge(node(steps, k), places, h, g, t, k, table);
+    for k in (0..steps.count).rev() {
+        judge(node(steps.records, k), steps.places, sets, k, table);
     }
 }

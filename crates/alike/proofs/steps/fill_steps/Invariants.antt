@@ -6,6 +6,3 @@ use Rattle.alike.proofs.steps.fill_steps.Given as goal
 
 abbrev pub invariant-loop-k : goal.invariant-loop-k
 invariant-loop-k l = FilledTo l.formulas l.list l.slots l.initial.steps l.steps l.k
-
-abbrev pub decreases-loop-k : goal.decreases-loop-k
-decreases-loop-k l = length l.list - l.k

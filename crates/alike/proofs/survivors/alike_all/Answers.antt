@@ -15,7 +15,7 @@ loop-m-init c =
     let args = c.args in (
       parts_counted args.outer _ c.requires (search rules) c.count.ensures,
       search rules,
-      all_starts args.steps.now args.listed args.slots.now args.places.now args.outer args.own args.side.now args.alive
+      all_starts args.steps.records.now args.steps.count args.steps.slots.now args.steps.places.now args.outer args.question.own args.question.side.now args.question.candidates
           args.table.now (search rules),
     )
 
@@ -25,7 +25,7 @@ shape_of-table-then-is_empty c = c.loop-m.invariant.2.long
 pub returns-then-is_empty : goal.returns-then-is_empty
 returns-then-is_empty c =
     let args = c.args in
-    all_none args.steps.now args.listed args.slots.now args.places.now args.outer args.own args.side.now args.alive
+    all_none args.steps.records.now args.steps.count args.steps.slots.now args.steps.places.now args.outer args.question.own args.question.side.now args.question.candidates
     args.table.now c.loop-m.invariant.2 (walk_ends _ (sym c.is_empty.ensures ∙ c.if-is_empty.true))
     (omega (arith, c.loop-m.invariant.0, c.loop-m.invariant.1))
 
@@ -37,7 +37,7 @@ loop-m-preserved c =
     let args = c.args in (
       c.loop-m.invariant.0,
       search rules,
-      all_next args.steps.now args.listed args.slots.now args.places.now args.outer args.own args.side.now args.alive
+      all_next args.steps.records.now args.steps.count args.steps.slots.now args.steps.places.now args.outer args.question.own args.question.side.now args.question.candidates
           args.table.now c.loop-m.invariant.2 _ c.part_of.ensures _ (search rules) c.alike_below-kept.ensures,
     )
 
@@ -47,5 +47,5 @@ shape_of-table c = c.loop-m.invariant.2.long
 pub returns : goal.returns
 returns c =
     let args = c.args in
-    all_whole args.steps.now args.listed args.slots.now args.places.now args.outer args.own args.side.now args.alive
+    all_whole args.steps.records.now args.steps.count args.steps.slots.now args.steps.places.now args.outer args.question.own args.question.side.now args.question.candidates
     args.table.now c.loop-m.invariant.2 (omega (arith, c.loop-m.invariant.0, c.loop-m.invariant.1, c.loop-m-test.false))

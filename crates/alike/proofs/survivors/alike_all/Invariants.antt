@@ -8,7 +8,4 @@ use Rattle.alike.proofs.Surviving.{AllSoFar}
 use Rattle.alike.proofs.survivors.alike_all.Given as goal
 
 abbrev pub invariant-loop-m : goal.invariant-loop-m
-invariant-loop-m l = (l.last ≡ 2 ^ length (members l.outer)) × (l.m ≤ l.last) × AllSoFar l.steps l.listed l.slots l.places l.outer l.own l.side l.alive l.initial.table l.table l.kept l.m
-
-abbrev pub decreases-loop-m : goal.decreases-loop-m
-decreases-loop-m l = l.last - l.m
+invariant-loop-m l = (l.last ≡ 2 ^ length (members l.outer)) × (l.m ≤ l.last) × AllSoFar l.steps.records.now l.steps.count l.steps.slots.now l.steps.places.now l.outer l.question.own l.question.side.now l.question.candidates l.initial.table l.table l.kept l.m

@@ -8,7 +8,7 @@ use Rattle.alike.proofs.Surviving.{BelowSoFar}
 use Rattle.alike.proofs.survivors.alike_below.Given as goal
 
 abbrev pub invariant-loop-n : goal.invariant-loop-n
-invariant-loop-n l = (l.last ≡ 2 ^ length (members l.t)) × (l.last ≤ 256) × BelowSoFar l.steps l.listed l.slots l.places l.t l.own l.side l.alive l.initial.table l.table l.kept l.n
+invariant-loop-n l = (l.last ≡ 2 ^ length (members l.t)) × (l.last ≤ 256) × BelowSoFar l.steps.records.now l.steps.count l.steps.slots.now l.steps.places.now l.t l.question.own l.question.side.now l.question.candidates l.initial.table l.table l.kept l.n
 
 abbrev pub decreases-loop-n : goal.decreases-loop-n
 decreases-loop-n l = l.last - l.n

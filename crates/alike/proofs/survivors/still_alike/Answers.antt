@@ -13,11 +13,11 @@ use Rattle.alike.proofs.survivors.still_alike.Goals.{After-eq}
 -- what the comparison says
 compared : (c : After-eq)
     → let args = c.args in
-    (c.eq.result ≡ true) ↔ SameHere args.table.now args.slots.now args.own (get_or args.side.now c.in-Some.c 0)
+    (c.eq.result ≡ true) ↔ SameHere args.table.now args.slots.now args.question.own (get_or args.question.side.now c.in-Some.c 0)
 compared c =
     let args = c.args in
-    same_at args.table.now args.slots.now args.side.now args.own _ c.here_in-here.ensures c.entry_of.ensures
-    c.also_in-also.ensures c.entry_of-2.ensures
+    same_at args.table.now args.slots.now args.question.side.now args.question.own _ c.here_in-here.ensures c.entry_of-own.ensures
+    c.also_in-also.ensures c.entry_of-own.ensures
     c.here_in.ensures c.also_in.ensures c.entry_of-slot.ensures c.formula_at.ensures (both_equal _ _ _ _ c.eq.ensures)
 
 pub loop-c-init : goal.loop-c-init

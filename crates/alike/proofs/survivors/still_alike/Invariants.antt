@@ -9,4 +9,4 @@ use Rattle.alike.proofs.survivors.still_alike.Given as goal
 abbrev pub invariant-loop-c : goal.invariant-loop-c
 invariant-loop-c l =
     (l.kept < 2 ^ 64)
-    × Filtering (λ c. SameHere l.table l.slots l.own (get_or l.side c 0)) l.alive l.kept (members_left l.c-iterator)
+    × Filtering (λ c. SameHere l.table l.slots l.question.own (get_or l.question.side.now c 0)) l.question.candidates l.kept (members_left l.c-iterator)

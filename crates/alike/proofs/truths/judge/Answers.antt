@@ -11,16 +11,16 @@ returns-then-step-eq-ATOM c =
     let args = c.args in
     let places = args.places.now in
     let is = c.note.ensures ∙ ap (place_of places) c.from.ensures in
-    judged_simple args.step places args.h args.g args.t args.k args.table.now c.put_truth.ensures (record {
-      first = of_atom args.step places _ _ args.h args.t c.if-step-eq-ATOM.true _ _ is c.truth_of_place.ensures.first;
-      second = of_atom args.step places _ _ args.g args.t c.if-step-eq-ATOM.true _ _ is c.truth_of_place.ensures.second;
+    judged_simple args.step places args.sets.h args.sets.g args.sets.t args.k args.table.now c.put_truth.ensures (record {
+      first = of_atom args.step places _ _ args.sets.h args.sets.t c.if-step-eq-ATOM.true _ _ is c.truth_of_place.ensures.first;
+      second = of_atom args.step places _ _ args.sets.g args.sets.t c.if-step-eq-ATOM.true _ _ is c.truth_of_place.ensures.second;
     })
 
 pub returns-then-step-lt-NOT : goal.returns-then-step-lt-NOT
 returns-then-step-lt-NOT c =
     let args = c.args in
     let is = c.at_all.ensures in
-    judged_nothing args.step args.places.now args.h args.g args.t args.k args.table.now is.0 is.1 is.2
+    judged_nothing args.step args.places.now args.sets.h args.sets.g args.sets.t args.k args.table.now is.0 is.1 is.2
     c.all_of_one.ensures c.all_of_one-then-step-lt-NOT.ensures c.if-step-eq-ATOM.false
     (λ two five. ⊎_elim (λ l. omega arith) (λ l. omega arith) c.then-step-lt-NOT.either)
     c.put_truth-then-step-lt-NOT.ensures
@@ -32,7 +32,7 @@ pub returns : goal.returns
 returns c =
     let args = c.args in
     let table = args.table.now in
-    judged_joined args.step args.places.now args.h args.g args.t args.k table
+    judged_joined args.step args.places.now args.sets.h args.sets.g args.sets.t args.k table
     (omega (arith, c.if-step-lt-NOT.false)) (omega (arith, c.if-step-gt-IMP.false)) c.signs_of.ensures
     c.put_truth-2.ensures c.joined_truth.ensures c.truth_in-x.ensures c.truth_in-y.ensures
     (at_slot table c.within.ensures.1) (at_slot table c.within-2.ensures.1)

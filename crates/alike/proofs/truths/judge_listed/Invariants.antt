@@ -6,7 +6,4 @@ use Rattle.alike.proofs.TruthBits.{JudgedFrom}
 use Rattle.alike.proofs.truths.judge_listed.Given as goal
 
 abbrev pub invariant-loop-k : goal.invariant-loop-k
-invariant-loop-k l = (truth_words * l.listed ≤ length l.initial.table) × JudgedFrom l.steps l.listed l.places l.h l.g l.t l.initial.table l.table l.k
-
-abbrev pub decreases-loop-k : goal.decreases-loop-k
-decreases-loop-k l = l.k
+invariant-loop-k l = (truth_words * l.steps.count ≤ length l.initial.table) × JudgedFrom l.steps.records.now l.steps.count l.steps.places.now l.sets.h l.sets.g l.sets.t l.initial.table l.table l.k

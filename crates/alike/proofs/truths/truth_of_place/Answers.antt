@@ -62,27 +62,27 @@ five_on place l h t n = (
 pub returns-then-place-eq0 : goal.returns-then-place-eq0
 returns-then-place-eq0 c =
     let args = c.args in
-    both_seen 0 place_zero args.place c.if-place-eq0.true c.at_all.ensures args.h args.g args.t
+    both_seen 0 place_zero args.place c.if-place-eq0.true c.at_all.ensures args.sets.h args.sets.g args.sets.t
 
 pub returns-then-place-eq1 : goal.returns-then-place-eq1
 returns-then-place-eq1 c =
     let args = c.args in
-    both_seen 1 place_one args.place c.if-place-eq1.true c.at_all-then-place-eq1.ensures args.h args.g args.t
+    both_seen 1 place_one args.place c.if-place-eq1.true c.at_all-then-place-eq1.ensures args.sets.h args.sets.g args.sets.t
 
 pub returns-then-place-eq2 : goal.returns-then-place-eq2
 returns-then-place-eq2 c =
     let args = c.args in
-    both_seen 2 place_two args.place c.if-place-eq2.true c.at_all-then-place-eq2.ensures args.h args.g args.t
+    both_seen 2 place_two args.place c.if-place-eq2.true c.at_all-then-place-eq2.ensures args.sets.h args.sets.g args.sets.t
 
 pub returns-then-place-eq3 : goal.returns-then-place-eq3
 returns-then-place-eq3 c =
     let args = c.args in
-    both_seen 3 place_three args.place c.if-place-eq3.true c.at_all-then-place-eq3.ensures args.h args.g args.t
+    both_seen 3 place_three args.place c.if-place-eq3.true c.at_all-then-place-eq3.ensures args.sets.h args.sets.g args.sets.t
 
 pub returns-then-place-eq4 : goal.returns-then-place-eq4
 returns-then-place-eq4 c =
     let args = c.args in
-    both_seen 4 place_four args.place c.if-place-eq4.true c.at_all-then-place-eq4.ensures args.h args.g args.t
+    both_seen 4 place_four args.place c.if-place-eq4.true c.at_all-then-place-eq4.ensures args.sets.h args.sets.g args.sets.t
 
 pub returns : goal.returns
 returns c =
@@ -96,8 +96,8 @@ returns c =
       c.if-place-eq0.false,
     ) in
     record {
-      first = λ n l. let later = five_on args.place high args.h args.t n in
+      first = λ n l. let later = five_on args.place high args.sets.h args.sets.t n in
           (c.spread.ensures n l ∙ sym later.0, c.spread-3.ensures n l ∙ sym later.1);
-      second = λ n l. let later = five_on args.place high args.g args.t n in
+      second = λ n l. let later = five_on args.place high args.sets.g args.sets.t n in
           (c.spread-2.ensures n l ∙ sym later.0, c.spread-3.ensures n l ∙ sym later.1);
     }

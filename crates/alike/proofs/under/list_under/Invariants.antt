@@ -5,6 +5,3 @@ use Rattle.alike.proofs.under.list_under.Given as goal
 
 abbrev pub invariant-loop-i : goal.invariant-loop-i
 invariant-loop-i l = Room l.marks l.list l.slots × SoFar l.formulas l.end l.initial.marks l.marks l.list l.slots l.count l.i
-
-abbrev pub decreases-loop-i : goal.decreases-loop-i
-decreases-loop-i l = l.i
