@@ -19,7 +19,7 @@ use Rattle.alike.specs.Truths.{place_of}
 use Rattle.alike.specs.Survivors.{most_places}
 use Rattle.alike.specs.Places.{Seated}
 use Rattle.candidates.specs.Places.{SeatedAll, PlacesKept, SeatedToo}
-use Rattle.alike.proofs.Remaining.{member_insert, member_walk}
+use Rattle.alike.proofs.Remaining.{member_insert, in_walk, none_in}
 
 -- a number is another one or not
 at_or_lem : {X : Type 0} (q p : ℕ) → (q ≡ p → X) → ((q ≡ p → ⊥) → X) → X
@@ -30,34 +30,37 @@ at_or_lem {X} q p f g = by (ℕ_discrete q p)
     by (no n) = g n
 
 -- the atoms of the set that are not in the rest have places of their own below `place`
-pub record SeatingSoFar (atoms : ℕ) (places : List ℕ) (place rest : ℕ) : Type 0 where
+pub record SeatingSoFar (atoms : ℕ) (places : List ℕ) (place : ℕ) (rest : List ℕ) : Type 0 where
   pub long : length places ≡ most_atoms
-  pub small : rest < 2 ^ 64
-  pub counted : place + length (members rest) ≡ length (members atoms)
-  pub rest_in : (p : ℕ) → Member p rest → Member p atoms
-  pub below : (p : ℕ) → Member p atoms → (Member p rest → ⊥) → place_of places p < place
+  pub small : atoms < 2 ^ 64
+  pub counted : place + length rest ≡ length (members atoms)
+  pub rest_in : (p : ℕ) → p ∈ rest → Member p atoms
+  pub below : (p : ℕ) → Member p atoms → (p ∈ rest → ⊥) → place_of places p < place
   pub apart :
-      (p q : ℕ) → Member p atoms → (Member p rest → ⊥) → Member q atoms → (Member q rest → ⊥) → place_of places p ≡ place_of places q → p ≡ q
+      (p q : ℕ) → Member p atoms → (p ∈ rest → ⊥) → Member q atoms → (q ∈ rest → ⊥) → place_of places p ≡ place_of places q → p ≡ q
 
 module _ (atoms : ℕ) where
-  pub seating_starts : {places : List ℕ} → length places ≡ most_atoms → atoms < 2 ^ 64 → SeatingSoFar atoms places 0 atoms
-  seating_starts long small = record {
+  pub seating_starts : {places rest : List ℕ} → length places ≡ most_atoms → atoms < 2 ^ 64 → rest ≡ members atoms → SeatingSoFar atoms places 0 rest
+  seating_starts {rest = rest} long small e = record {
     long = long;
     small = small;
-    counted = omega arith;
-    rest_in = λ p m. m;
-    below = λ p m n. absurd (n m);
-    apart = λ p q m n. absurd (n m);
+    counted = omega (arith, ap length e);
+    rest_in = λ p m. (member_members atoms small p).1 (subst (λ (xs : List ℕ). p ∈ xs) e m);
+    below = λ p m n. absurd (n (here p m));
+    apart = λ p q m n. absurd (n (here p m));
   }
+    where
+      here : (p : ℕ) → Member p atoms → p ∈ rest
+      here p m = subst (λ (xs : List ℕ). p ∈ xs) (sym e) ((member_members atoms small p).0 m)
 
   -- the first of the rest gets the next place
-  pub seating_next : {places : List ℕ} {place rest : ℕ} → SeatingSoFar atoms places place rest → {p rest' : ℕ} → rest' < 2 ^ 64
-      → members rest ≡ p ∷ members rest' → {places' : List ℕ} → places' ≡ set places p place → SeatingSoFar atoms places' (place + 1) rest'
-  seating_next {places} {place} {rest} s {p} {rest'} small' walk {places'} put = record {
+  pub seating_next : {places : List ℕ} {place : ℕ} {rest : List ℕ} → SeatingSoFar atoms places place rest → {p : ℕ} {rest' : List ℕ}
+      → rest ≡ p ∷ rest' → {places' : List ℕ} → places' ≡ set places p place → SeatingSoFar atoms places' (place + 1) rest'
+  seating_next {places} {place} {rest} s {p} {rest'} walk {places'} put = record {
     long = ap length put ∙ length-set places p place ∙ s.long;
-    small = small';
+    small = s.small;
     counted = omega (arith, s.counted, ap length walk);
-    rest_in = λ q m. s.rest_in q ((its q).1 (inr m));
+    rest_in = λ q m. s.rest_in q ((in_walk walk q).1 (inr m));
     below = λ q m n. at_or_lem q p (λ e. omega (arith, own q e)) (λ d. omega (arith, other q d, s.below q m (before q d n)));
     apart = λ q r m n k l e.
         at_or_lem q p
@@ -66,11 +69,8 @@ module _ (atoms : ℕ) where
         (λ f. s.apart q r m (before q d n) k (before r f l) (sym (other q d) ∙ e ∙ other r f)));
   }
     where
-      its : (i : ℕ) → Member i rest ↔ ((i ≡ p) ⊎ Member i rest')
-      its = member_walk rest p rest' s.small small' walk
-
       room : p < length places
-      room = let l = member_lt 64 rest p s.small ((its p).1 (inl refl)) in omega (arith, s.long)
+      room = let l = member_lt 64 atoms p s.small (s.rest_in p ((in_walk walk p).1 (inl refl))) in omega (arith, s.long)
 
       own : (q : ℕ) → q ≡ p → place_of places' q ≡ place
       own q e = ap (λ (ps : List ℕ). get_or ps q 0) put ∙ ap (λ (i : ℕ). get_or (set places p place) i 0) e ∙ get_or-set_same places p place 0 room
@@ -78,22 +78,19 @@ module _ (atoms : ℕ) where
       other : (q : ℕ) → (q ≡ p → ⊥) → place_of places' q ≡ place_of places q
       other q n = ap (λ (ps : List ℕ). get_or ps q 0) put ∙ get_or-set_other places p q place 0 n
 
-      before : (q : ℕ) → (q ≡ p → ⊥) → (Member q rest' → ⊥) → Member q rest → ⊥
-      before q d n m = ⊎_elim d n ((its q).0 m)
+      before : (q : ℕ) → (q ≡ p → ⊥) → (q ∈ rest' → ⊥) → q ∈ rest → ⊥
+      before q d n m = ⊎_elim d n ((in_walk walk q).0 m)
 
   -- no atom is left
-  pub seating_ends : {before places : List ℕ} {place rest : ℕ} → SeatingSoFar atoms places place rest → length before ≡ most_atoms → members rest ≡ []
+  pub seating_ends : {before places : List ℕ} {place : ℕ} {rest : List ℕ} → SeatingSoFar atoms places place rest → length before ≡ most_atoms → rest ≡ []
       → SeatedAll atoms before places
-  seating_ends {rest = rest} s long none = record {
+  seating_ends s long none = record {
     long = s.long ∙ sym long;
     seated = record {
-      below = λ p m. omega (arith, s.below p m (gone p), s.counted, ap length none);
-      apart = λ p q m k. s.apart p q m (gone p) k (gone q);
+      below = λ p m. omega (arith, s.below p m (none_in none), s.counted, ap length none);
+      apart = λ p q m k. s.apart p q m (none_in none) k (none_in none);
     };
   }
-    where
-      gone : (p : ℕ) → Member p rest → ⊥
-      gone p m = Memᴰ.not-nil (subst (λ (xs : List ℕ). p ∈ xs) none ((member_members rest s.small p).0 m))
 
 -- ---- places that are kept
 
@@ -105,31 +102,30 @@ pub none_given : {places : List ℕ} {n atoms : ℕ} → SeatedToo atoms n place
 none_given = record { kept = kept_same; seated = λ e. absurd (false≢true e) }
 
 -- places were given, and will be, to atoms that had none
-pub record GivingSoFar (before places : List ℕ) (rest : ℕ) : Type 0 where
-  pub small : rest < 2 ^ 64
-  pub lacking : (p : ℕ) → Member p rest → most_places ≤ place_of before p
+pub record GivingSoFar (before places rest : List ℕ) : Type 0 where
+  pub lacking : (p : ℕ) → p ∈ rest → most_places ≤ place_of before p
   pub kept : PlacesKept before places
 
-pub giving_starts : {places : List ℕ} {rest : ℕ} → rest < 2 ^ 64 → ((p : ℕ) → Member p rest → most_places ≤ place_of places p) → GivingSoFar places places rest
-giving_starts small lacking = record { small = small; lacking = lacking; kept = kept_same }
+pub giving_starts : {places rest : List ℕ} {others : ℕ} → others < 2 ^ 64 → rest ≡ members others
+    → ((p : ℕ) → Member p others → most_places ≤ place_of places p) → GivingSoFar places places rest
+giving_starts {others = others} small e lacking = record {
+  lacking = λ p m. lacking p ((member_members others small p).1 (subst (λ (xs : List ℕ). p ∈ xs) e m));
+  kept = kept_same;
+}
 
 -- the first of the rest gets one
-pub giving_next : {before places : List ℕ} {rest : ℕ} → GivingSoFar before places rest → (p place : ℕ) → {rest' : ℕ} → rest' < 2 ^ 64
-    → members rest ≡ p ∷ members rest' → {places' : List ℕ} → places' ≡ set places p place → GivingSoFar before places' rest'
-giving_next {before} {places} {rest} s p place {rest'} small' walk {places'} put = record {
-  small = small';
-  lacking = λ q m. s.lacking q ((its q).1 (inr m));
+pub giving_next : {before places rest : List ℕ} → GivingSoFar before places rest → (p place : ℕ) → {rest' : List ℕ}
+    → rest ≡ p ∷ rest' → {places' : List ℕ} → places' ≡ set places p place → GivingSoFar before places' rest'
+giving_next {before} {places} s p place walk put = record {
+  lacking = λ q m. s.lacking q ((in_walk walk q).1 (inr m));
   kept = record {
     long = ap length put ∙ length-set places p place ∙ s.kept.long;
     kept = λ q l. ap (λ (ps : List ℕ). get_or ps q 0) put ∙ get_or-set_other places p q place 0 (other q l) ∙ s.kept.kept q l;
   };
 }
   where
-    its : (i : ℕ) → Member i rest ↔ ((i ≡ p) ⊎ Member i rest')
-    its = member_walk rest p rest' s.small small' walk
-
     other : (q : ℕ) → place_of before q < most_places → q ≡ p → ⊥
-    other q l e = omega (arith, s.lacking q ((its q).1 (inl e)))
+    other q l e = omega (arith, s.lacking q ((in_walk walk q).1 (inl e)))
 
 -- atoms that have places of their own keep them
 pub kept_seated : {before after : List ℕ} {n atoms : ℕ} → PlacesKept before after → n ≤ most_places → Seated before n atoms → Seated after n atoms
@@ -144,23 +140,25 @@ kept_seated {before} {after} {n} {atoms} k few s = record {
 -- ---- places found apart
 
 -- the atoms of the set that are not in the rest have places of their own below n, which are in use
-pub record ApartSoFar (places : List ℕ) (n atoms used rest : ℕ) : Type 0 where
-  pub small : rest < 2 ^ 64
-  pub below : (p : ℕ) → Member p atoms → (Member p rest → ⊥) → place_of places p < n
-  pub in_use : (p : ℕ) → Member p atoms → (Member p rest → ⊥) → Member (place_of places p) used
+pub record ApartSoFar (places : List ℕ) (n atoms used : ℕ) (rest : List ℕ) : Type 0 where
+  pub below : (p : ℕ) → Member p atoms → (p ∈ rest → ⊥) → place_of places p < n
+  pub in_use : (p : ℕ) → Member p atoms → (p ∈ rest → ⊥) → Member (place_of places p) used
   pub apart :
-      (p q : ℕ) → Member p atoms → (Member p rest → ⊥) → Member q atoms → (Member q rest → ⊥) → place_of places p ≡ place_of places q → p ≡ q
+      (p q : ℕ) → Member p atoms → (p ∈ rest → ⊥) → Member q atoms → (q ∈ rest → ⊥) → place_of places p ≡ place_of places q → p ≡ q
 
 module _ {places : List ℕ} {n atoms : ℕ} where
-  pub apart_starts : {used : ℕ} → atoms < 2 ^ 64 → ApartSoFar places n atoms used atoms
-  apart_starts small = record { small = small; below = λ p m o. absurd (o m); in_use = λ p m o. absurd (o m); apart = λ p q m o. absurd (o m) }
+  pub apart_starts : {used : ℕ} {rest : List ℕ} → atoms < 2 ^ 64 → rest ≡ members atoms → ApartSoFar places n atoms used rest
+  apart_starts {rest = rest} small e =
+      record { below = λ p m o. absurd (o (here p m)); in_use = λ p m o. absurd (o (here p m)); apart = λ p q m o. absurd (o (here p m)) }
+    where
+      here : (p : ℕ) → Member p atoms → p ∈ rest
+      here p m = subst (λ (xs : List ℕ). p ∈ xs) (sym e) ((member_members atoms small p).0 m)
 
   -- the place of the first of the rest is not in use
-  pub apart_next : {used rest : ℕ} → ApartSoFar places n atoms used rest → {p rest' : ℕ} → rest' < 2 ^ 64 → members rest ≡ p ∷ members rest'
+  pub apart_next : {used : ℕ} {rest : List ℕ} → ApartSoFar places n atoms used rest → {p : ℕ} {rest' : List ℕ} → rest ≡ p ∷ rest'
       → {place : ℕ} → place ≡ place_of places p → n ≤ most_places → place < n → (Member place used → ⊥) → {used' : ℕ}
       → ((i : ℕ) → has used' i ≡ (has used i || (eqb i place && ltb place 64))) → ApartSoFar places n atoms used' rest'
-  apart_next {used} {rest} s {p} {rest'} small' walk {place} is few low new {used'} more = record {
-    small = small';
+  apart_next {used} {rest} s {p} {rest'} walk {place} is few low new {used'} more = record {
     below = λ q m o. at_or_lem q p (λ e. omega (arith, own q e)) (λ d. s.below q m (before q d o));
     in_use = λ q m o. at_or_lem q p (λ e. (put (place_of places q)).1 (inr (own q e))) (λ d. (put (place_of places q)).1 (inl (s.in_use q m (before q d o))));
     apart = λ q r m o k l e.
@@ -176,12 +174,9 @@ module _ {places : List ℕ} {n atoms : ℕ} where
       put : (i : ℕ) → Member i used' ↔ (Member i used ⊎ (i ≡ place))
       put = member_insert used place used' (omega arith) more
 
-      before : (q : ℕ) → (q ≡ p → ⊥) → (Member q rest' → ⊥) → Member q rest → ⊥
-      before q d o m = ⊎_elim d o ((member_walk rest p rest' s.small small' walk q).0 m)
+      before : (q : ℕ) → (q ≡ p → ⊥) → (q ∈ rest' → ⊥) → q ∈ rest → ⊥
+      before q d o m = ⊎_elim d o ((in_walk walk q).0 m)
 
   -- no atom is left
-  pub apart_ends : {used rest : ℕ} → ApartSoFar places n atoms used rest → members rest ≡ [] → Seated places n atoms
-  apart_ends {rest = rest} s none = record { below = λ p m. s.below p m (gone p); apart = λ p q m l. s.apart p q m (gone p) l (gone q) }
-    where
-      gone : (p : ℕ) → Member p rest → ⊥
-      gone p m = Memᴰ.not-nil (subst (λ (xs : List ℕ). p ∈ xs) none ((member_members rest s.small p).0 m))
+  pub apart_ends : {used : ℕ} {rest : List ℕ} → ApartSoFar places n atoms used rest → rest ≡ [] → Seated places n atoms
+  apart_ends s none = record { below = λ p m. s.below p m (none_in none); apart = λ p q m l. s.apart p q m (none_in none) l (none_in none) }

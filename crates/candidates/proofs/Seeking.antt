@@ -19,7 +19,7 @@ use Rattle.sides.specs.Deciding.{Decides}
 use Rattle.candidates.specs.Candidates.{atoms_at, SomeEqual, Grouped, GroupJudged}
 use Rattle.alike.specs.Survivors.{most_places}
 use Rattle.alike.specs.Alike.{Held, OneEqual, SomeAlike}
-use Rattle.alike.proofs.Remaining.{member_walk}
+use Rattle.alike.proofs.Remaining.{in_walk, none_in}
 
 -- the atoms of two sets
 pub member_or : (a b p : ℕ) → Member p (bit_or a b) ↔ (Member p a ⊎ Member p b)
@@ -27,15 +27,14 @@ member_or a b = member_union a b (bit_or a b) (has_or a b)
 
 -- a group of candidates, by their atoms as noted
 module _ {formulas notes : List ℕ} {own atoms : ℕ} {side : List ℕ} {c pending width : ℕ} {before places : List ℕ} {group : ℕ}
-    (grouped : Grouped notes atoms side c pending width before places group) (few : width ≤ most_places)
-    (fits : (x : ℕ) → bit_or atoms (get_or notes x 0) < 2 ^ 64) where
+    (grouped : Grouped notes atoms side c pending width before places group) (few : width ≤ most_places) where
   pub group_judged : {r : Bool} → SomeAlike formulas own places width side group r → GroupJudged formulas notes own atoms side c pending group r
   group_judged {r} answer = record {
     its = grouped.its;
     judged = record {
       decides = λ b held noted own_atoms on_side. answer.decides b held few on_side (λ d m. record {
         set = atoms_at notes atoms side d;
-        small = fits (get_or side d 0);
+        small = grouped.small d m;
         seated = grouped.seated d m;
         in_first = λ p i. (member_or atoms _ p).1 (inl (subst (Member p) (sym own_atoms) ((noted own held.own_known p).1 i)));
         in_second = λ p i. (member_or atoms _ p).1 (inr ((noted (get_or side d 0) (held.side_known (get_or side d 0) (in_get_d side d 0 (on_side d m))) p).1 i));
@@ -55,30 +54,30 @@ abbrev EqualAt : Body → ℕ → List ℕ → ℕ → Type 0
 EqualAt b own side c = Equal (decoded_at b.nodes own) (decoded_at b.nodes (get_or side c 0))
 
 -- the candidates that are not pending are not equal to the formula, and the pending ones are in the rest
-pub record Seeking (formulas notes : List ℕ) (own atoms : ℕ) (side : List ℕ) (narrow pending rest : ℕ) : Type 0 where
-  pub small : rest < 2 ^ 64
+pub record Seeking (formulas notes : List ℕ) (own atoms : ℕ) (side : List ℕ) (narrow pending : ℕ) (rest : List ℕ) : Type 0 where
   pub pending_small : pending < 2 ^ 64
   pub pending_narrow : (c : ℕ) → Member c pending → Member c narrow
-  pub pending_rest : (c : ℕ) → Member c pending → Member c rest
+  pub pending_rest : (c : ℕ) → Member c pending → c ∈ rest
   pub settled :
       (b : Body) → Settling b formulas notes own atoms side narrow → (c : ℕ) → Member c narrow → Member c pending ⊎ (EqualAt b own side c → ⊥)
 
 module _ {formulas notes : List ℕ} {own atoms : ℕ} {side : List ℕ} {narrow : ℕ} where
-  pub seeking_starts : narrow < 2 ^ 64 → Seeking formulas notes own atoms side narrow narrow narrow
-  seeking_starts s = record { small = s; pending_small = s; pending_narrow = λ c m. m; pending_rest = λ c m. m; settled = λ b k c m. inl m }
+  pub seeking_starts : narrow < 2 ^ 64 → Seeking formulas notes own atoms side narrow narrow (members narrow)
+  seeking_starts s = record {
+    pending_small = s;
+    pending_narrow = λ c m. m;
+    pending_rest = λ c m. (member_members narrow s c).0 m;
+    settled = λ b k c m. inl m;
+  }
 
-  module _ {pending rest : ℕ} (s : Seeking formulas notes own atoms side narrow pending rest)
-      {c rest' : ℕ} (small' : rest' < 2 ^ 64) (walk : members rest ≡ c ∷ members rest') where
-    its : (i : ℕ) → Member i rest ↔ ((i ≡ c) ⊎ Member i rest')
-    its = member_walk rest c rest' s.small small' walk
-
+  module _ {pending : ℕ} {rest : List ℕ} (s : Seeking formulas notes own atoms side narrow pending rest)
+      {c : ℕ} {rest' : List ℕ} (walk : rest ≡ c ∷ rest') where
     -- the next one is settled already
     pub seeking_passes : (Member c pending → ⊥) → Seeking formulas notes own atoms side narrow pending rest'
     seeking_passes n = record {
-      small = small';
       pending_small = s.pending_small;
       pending_narrow = s.pending_narrow;
-      pending_rest = λ d m. ⊎_elim (λ (e : d ≡ c). absurd (n (subst (λ (x : ℕ). Member x pending) e m))) (λ k. k) ((its d).0 (s.pending_rest d m));
+      pending_rest = λ d m. ⊎_elim (λ (e : d ≡ c). absurd (n (subst (λ (x : ℕ). Member x pending) e m))) (λ k. k) ((in_walk walk d).0 (s.pending_rest d m));
       settled = s.settled;
     }
 
@@ -91,11 +90,10 @@ module _ {formulas notes : List ℕ} {own atoms : ℕ} {side : List ℕ} {narrow
       pub seeking_goes_on : r ≡ false → {pending' : ℕ} → pending' < 2 ^ 64
           → ((i : ℕ) → has pending' i ≡ (has pending i && not (has group i))) → Seeking formulas notes own atoms side narrow pending' rest'
       seeking_goes_on no_one {pending'} fits e = record {
-        small = small';
         pending_small = fits;
         pending_narrow = λ d m. s.pending_narrow d ((left d).0 m).0;
         pending_rest = λ d m. ⊎_elim (λ (f : d ≡ c). absurd (((left d).0 m).1 (subst (λ (x : ℕ). Member x group) (sym f) answer.its.own))) (λ k. k)
-            ((its d).0 (s.pending_rest d ((left d).0 m).0));
+            ((in_walk walk d).0 (s.pending_rest d ((left d).0 m).0));
         settled = λ b k d m. ⊎_elim (λ i. by b k d i (has group d) refl) inr (s.settled b k d m);
       }
         where
@@ -131,15 +129,12 @@ module _ {formulas notes : List ℕ} {own atoms : ℕ} {side : List ℕ} {narrow
   }
 
   -- all are settled
-  pub seeking_ends : {pending rest : ℕ} → Seeking formulas notes own atoms side narrow pending rest → members rest ≡ []
+  pub seeking_ends : {pending : ℕ} {rest : List ℕ} → Seeking formulas notes own atoms side narrow pending rest → rest ≡ []
       → SomeEqual formulas notes own atoms side narrow false
-  seeking_ends {pending} {rest} s none = record {
+  seeking_ends s none = record {
     decides = λ b held noted own_atoms on_side. record {
       sound = λ t. absurd (false≢true t);
-      complete = λ (c, m, q). absurd (⊎_elim (λ i. gone c (s.pending_rest c i)) (λ n. n q)
+      complete = λ (c, m, q). absurd (⊎_elim (λ i. none_in none (s.pending_rest c i)) (λ n. n q)
           (s.settled b (record { held = held; noted = noted; own_atoms = own_atoms; on_side = on_side }) c m));
     };
   }
-    where
-      gone : (c : ℕ) → Member c rest → ⊥
-      gone c m = Memᴰ.not-nil (subst (λ (xs : List ℕ). c ∈ xs) none ((member_members rest s.small c).0 m))

@@ -1,5 +1,5 @@
 -- The number that a row of `swap` earns by its candidates for B: formulas that leave its sides right.
-use Rattle.std.specs.Prelude.{ℕ, ◌≤◌, ◌<◌, Bool, List, [], ◌∷◌, ◌↔◌, ◌≡◌, length, get_or}
+use Rattle.std.specs.Prelude.{ℕ, ◌^◌, ◌≤◌, ◌<◌, Bool, true, false, Option, MatchOption, List, [], ◌∷◌, ◌↔◌, ◌≡◌, length, get_or}
 use Rattle.std.specs.Int.Bits.{bit_or}
 use Rattle.equilibrium.specs.Meaning.{◌∈◌, Equal}
 use Rattle.elk.specs.Instance.{most_swapped, Narrow}
@@ -34,12 +34,19 @@ pub record GroupOf (c pending group : ℕ) : Type 0 where
 pub record Grouped (notes : List ℕ) (atoms : ℕ) (side : List ℕ) (c pending n : ℕ) (before after : List ℕ) (group : ℕ) : Type 0 where
   pub long : length after ≡ length before
   pub its : GroupOf c pending group
+  pub small : (d : ℕ) → Member d group → atoms_at notes atoms side d < 2 ^ 64
   pub seated : (d : ℕ) → Member d group → Seated after n (atoms_at notes atoms side d)
 
 -- and the answer says whether one of it is equal to the formula
 pub record GroupJudged (formulas notes : List ℕ) (own atoms : ℕ) (side : List ℕ) (c pending group : ℕ) (r : Bool) : Type 0 where
   pub its : GroupOf c pending group
   pub judged : SomeEqual formulas notes own atoms side group r
+
+-- no value says that one of some group is equal to the formula, and a value is a group of which none is
+abbrev pub GroupFound : List ℕ → List ℕ → ℕ → ℕ → List ℕ → ℕ → ℕ → Option ℕ → Type 0
+GroupFound formulas notes own atoms side c pending found =
+    MatchOption found ((group : ℕ) × GroupJudged formulas notes own atoms side c pending group true)
+    (λ group. GroupJudged formulas notes own atoms side c pending group false)
 
 -- a formula of the side fits: it has few atoms together with A, and is equal to it
 abbrev pub OneFits : Body → ℕ → List ℕ → Type 0

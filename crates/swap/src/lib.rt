@@ -3,52 +3,53 @@
 // there is none, each formula of the premise's left side does so, or none does.
 #![tactic(auto)]
 
+ghost use Rattle.refusals.specs.Refusals.{outcome};
 ghost use Rattle.swap.specs.Swap.{SwapNumbered};
 
 use candidates::candidates_number;
+use refusals::Refusal;
 use sides::covering::first_outside;
 use sides::fitting::fit;
 use sides::members::same;
 use sides::numbers::{NO_NUMBER, Numbers, number};
+use sides::sequents::Sequent;
 
-// The number of a row with these sides, for the formula A of this number and a premise of these sides: 0 if it is an instance, 18 if
-// none with few atoms fits and some B that leaves the sides right has more, else 11.
+// What a row by `swap` comes to, for the formula A of this number and one premise: no refusal if it is an instance, too many atoms if
+// none with few atoms fits and some B that leaves the sides right has more, else a wrong step.
 pub fn swap_number(
     formulas: &[u16],
     notes: &[u64],
     principal: u16,
-    left: &[u16],
-    right: &[u16],
-    left_one: &[u16],
-    right_one: &[u16],
-) -> u32
-    ensures { SwapNumbered formulas.now notes.now principal left.now right.now
-        left_one.now right_one.now result }
+    row: Sequent<'_>,
+    one: Sequent<'_>,
+) -> Result<(), Refusal>
+    ensures { SwapNumbered formulas.now notes.now principal row.entry.left.now row.entry.right.now
+        one.entry.left.now one.entry.right.now (outcome result) }
 {
-    if !same(right, right_one) {
-        return 11;
+    if !same(row.right, one.right) {
+        return Err(Refusal::WrongStep);
     }
     let swapped = Numbers {
         x: number(principal),
         y: NO_NUMBER,
     };
-    let at = first_outside(left_one, left);
-    if at < left_one.len() {
+    let at = first_outside(one.left, row.left);
+    if at < one.left.len() {
         let only = Numbers {
-            x: number(left_one[at]),
+            x: number(one.left[at]),
             y: NO_NUMBER,
         };
-        if !fit(left, swapped, left_one, only) {
-            return 11;
+        if !fit(row.left, swapped, one.left, only) {
+            return Err(Refusal::WrongStep);
         }
-        return candidates_number(formulas, notes, principal, &left_one[at..at + 1]);
+        return candidates_number(formulas, notes, principal, &one.left[at..at + 1]);
     }
     let none = Numbers {
         x: NO_NUMBER,
         y: NO_NUMBER,
     };
-    if !fit(left, swapped, left_one, none) {
-        return 11;
+    if !fit(row.left, swapped, one.left, none) {
+        return Err(Refusal::WrongStep);
     }
-    candidates_number(formulas, notes, principal, left_one)
+    candidates_number(formulas, notes, principal, one.left)
 }

@@ -1,46 +1,54 @@
 -- `candidates::judge_group` meets its contract. Assumes nothing.
-use Prim.Native.Nat.{ℕ, ◌≤◌}
+use Prim.Native.Nat.{ℕ, ◌^◌, ◌≤◌, ◌<◌}
 use native.Mathlib.Omega.{arith}
 use mathlib.Core.List.{List}
-use mathlib.Core.Path.{◌≡◌, sym, ap, subst, ◌∙◌}
+use mathlib.Core.Path.{◌≡◌, sym, ap, subst}
 use borrow.Author.Rules.{rules}
-use lib.Bits.{bit_or, or_lt}
+use lib.Bits.{or_lt}
 use lib.ListN.{length, get_or}
 use Rattle.atomset.specs.AtomSet.{members}
 use Rattle.alike.specs.Survivors.{most_places}
 use Rattle.alike.specs.Places.{Seated}
 use Rattle.candidates.specs.Places.{SeatedAll}
-use Rattle.candidates.specs.Candidates.{atoms_at}
+use Rattle.candidates.specs.Candidates.{GroupJudged}
 use Rattle.candidates.proofs.Seeking.{group_judged}
 use Rattle.candidates.proofs.judge_group.Goals as goal
-use Rattle.candidates.proofs.judge_group.Goals.{After-count-width}
+use Rattle.candidates.proofs.judge_group.Goals.{After-some_alike}
 
 -- the same set and width, by other names
 seated_as : {before after : List ℕ} {n set set' : ℕ} → SeatedAll set before after → n ≡ length (members set) → set ≡ set' → Seated after n set'
 seated_as {after = after} {set = set} s e f = subst (Seated after _) f (subst (λ (n : ℕ). Seated after n set) (sym e) s.seated)
 
--- the atoms of the candidate with the formula's own
-its_set : (c : After-count-width)
-    → let args = c.args in
-    c.atoms_with-set.result ≡ atoms_at args.notes.now args.atoms args.side.now args.c
-its_set c =
-    let args = c.args in
-    c.atoms_with-set.ensures ∙ ap (λ (x : ℕ). bit_or args.atoms (get_or args.notes.now x 0)) c.formula_at.ensures
+-- how many atoms the candidate has with the formula
+few : (c : After-some_alike) → c.count-width.result ≤ most_places
+few c = omega (arith, c.count-width.ensures, ap (λ (w : ℕ). length (members w)) c.atoms_with-set.ensures, c.requires.1)
 
--- how many they are
-few : (c : After-count-width) → c.count-width.result ≤ most_places
-few c =
-    omega (arith, c.count-width.ensures, ap (λ (w : ℕ). length (members w)) (its_set c), c.requires.1)
-
-pub seat_group-candidates-requires : goal.seat_group-candidates-requires
-seat_group-candidates-requires c = (
-  few (goal.at.seat_group-candidates-requires c).After-count-width,
+pub seat_group-group-requires : goal.seat_group-group-requires
+seat_group-group-requires c = (
+  omega (arith, c.count-width.ensures, ap (λ (w : ℕ). length (members w)) c.atoms_with-set.ensures, c.requires.1),
   c.requires.0,
-  seated_as c.seat.ensures c.count-width.ensures (its_set (goal.at.seat_group-candidates-requires c).After-count-width),
+  subst (λ (w : ℕ). w < 2 ^ 64) c.atoms_with-set.ensures (search rules),
+  seated_as c.seat.ensures c.count-width.ensures c.atoms_with-set.ensures,
 )
+
+-- what the answer says
+judged : (c : After-some_alike)
+    → let swapped = c.args.swapped in
+    GroupJudged swapped.formulas.now swapped.notes.now swapped.own swapped.atoms swapped.side.now c.args.c c.args.pending c.seat_group-group.result
+    c.some_alike.result
+judged c =
+    group_judged c.seat_group-group.ensures (few c) c.some_alike.ensures
+
+pub returns-then-some_alike : goal.returns-then-some_alike
+returns-then-some_alike c =
+    let swapped = c.args.swapped in (
+      c.seat_group-group.result,
+      subst (GroupJudged swapped.formulas.now swapped.notes.now swapped.own swapped.atoms swapped.side.now c.args.c c.args.pending c.seat_group-group.result)
+          c.if-some_alike.true (judged (goal.at.returns-then-some_alike c).After-some_alike),
+    )
 
 pub returns : goal.returns
 returns c =
-    let args = c.args in
-    group_judged c.seat_group-candidates.ensures (few (goal.at.returns c).After-count-width)
-    (λ x. or_lt 64 args.atoms (get_or args.notes.now x 0) (search rules) (omega (arith, c.type_inv.notes x))) c.some_alike-equal.ensures
+    let swapped = c.args.swapped in
+    subst (GroupJudged swapped.formulas.now swapped.notes.now swapped.own swapped.atoms swapped.side.now c.args.c c.args.pending c.seat_group-group.result)
+    c.if-some_alike.false (judged (goal.at.returns c).After-some_alike)

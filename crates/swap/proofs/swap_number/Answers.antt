@@ -29,8 +29,8 @@ returns-then-not-same c = eleven_given (λ b o q m t e. false≢true (sym (c.if-
 pub returns-then-not-fit : goal.returns-then-not-fit
 returns-then-not-fit c =
     let args = c.args in
-    let left = args.left.now in
-    let left₁ = args.left_one.now in
+    let left = args.row.left.now in
+    let left₁ = args.one.left.now in
     let outside = c.first_outside-at.ensures in
     let at = c.first_outside-at.result in
     let inside : at < length left₁ = c.if-at-left_one.true in
@@ -44,8 +44,8 @@ returns-then-not-fit c =
 pub returns-then-at-left_one : goal.returns-then-at-left_one
 returns-then-at-left_one c =
     let args = c.args in
-    let left = args.left.now in
-    let left₁ = args.left_one.now in
+    let left = args.row.left.now in
+    let left₁ = args.one.left.now in
     let outside = c.first_outside-at.ensures in
     let at = c.first_outside-at.result in
     let inside : at < length left₁ = c.if-at-left_one.true in
@@ -68,8 +68,8 @@ returns-then-at-left_one c =
 pub returns-then-not-fit-2 : goal.returns-then-not-fit-2
 returns-then-not-fit-2 c =
     let args = c.args in
-    let left = args.left.now in
-    let left₁ = args.left_one.now in
+    let left = args.row.left.now in
+    let left₁ = args.one.left.now in
     eleven_given (λ b o q m t e.
     denied_if c.fit-2.ensures (c.if-not-fit-2.true) (o.row_left.rising, (o.premise_left.rising, tt))
     (none_needed args.principal left left₁ c.number.ensures (omega (arith, c.ranges.principal))
@@ -78,8 +78,8 @@ returns-then-not-fit-2 c =
 pub returns : goal.returns
 returns c =
     let args = c.args in
-    let left = args.left.now in
-    let left₁ = args.left_one.now in
+    let left = args.row.left.now in
+    let left₁ = args.one.left.now in
     let rights = (same_iff _ _).0 (sym c.same.ensures ∙ c.if-not-same.false) in
     let shared = c.fit-2.ensures.sound (c.if-not-fit-2.false) in
     let fits : args.principal < 65536 = omega (arith, c.ranges.principal) in
