@@ -164,24 +164,6 @@ writes_within {words} {text} {text'} {w} {end} p = by w p.reached
     by (Some at) e = to at (ltb (length text) (at + length words)) refl e
     by None e = absurd (false≢true (ap reaches (sym e)))
 
-module _ {words text text' : Bytes} {at : ℕ} where
-  -- what was written ends so many bytes further on
-  pub writes_end : {end : ℕ} → Writes words text (Some at) text' (Some end) → end ≡ at + length words
-  writes_end {end} p = by (ltb (length text) (at + length words)) p.reached
-    where
-      by : (full : Bool) → Some end ≡ written_as (cond full (some no_room) none) (at + length words) → end ≡ at + length words
-      by false e = cc e
-      by true e = absurd (false≢true (ap reaches (sym e)))
-
-  -- there was no room, since there is none for all of the words
-  pub writes_full : Writes words text (Some at) text' None → length text < at + length words
-  writes_full p = by (ltb (length text) (at + length words)) refl p.reached
-    where
-      by : (full : Bool) → ltb (length text) (at + length words) ≡ full → None ≡ written_as (cond full (some no_room) none) (at + length words)
-          → length text < at + length words
-      by true f e = ltb-true (length text) (at + length words) f
-      by false f e = absurd (false≢true (ap reaches e))
-
 -- ---- the rest of a lent text
 
 -- so many bytes further on

@@ -11,9 +11,6 @@ ghost use Rattle.format.specs.Written.{decimal};
 ghost use Rattle.writer.specs.Writing.{front};
 ghost use Rattle.writer.specs.Putting.{Puts};
 
-// The number of a call whose lent text is too short for what is to be written.
-pub const NO_ROOM: u32 = 14;
-
 // A lent text that is written up to this byte; or there was no room.
 #[derive(Drop)]
 pub struct Writer<'a> {
