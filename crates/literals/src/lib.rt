@@ -9,6 +9,7 @@ ghost use Rattle.literals.specs.Literals.{atom_but, atoms_but, Adds, Collects, D
 use atomset::{difference, insert, is_subset};
 use shapes::{Shape, shape_of};
 use sides::members::contains;
+use sides::sequents::Sequent;
 
 // The literals of a side: its p and ~p as sets of atoms, whether it has # and ~#, and whether any other formula.
 #[derive(Clone, Copy)]
@@ -24,28 +25,27 @@ struct Literals {
 fn with_literal(found: Literals, s: Shape) -> Literals
     ensures { Adds s found result }
 {
-    let mut more = found;
     match s {
-        Shape::Falsum => {
-            more.falsum = true;
-            return more;
-        }
-        Shape::Atom(p) => {
-            more.atoms = insert(found.atoms, p);
-            return more;
-        }
-        Shape::Verum => {
-            more.verum = true;
-            return more;
-        }
-        Shape::Negated(p) => {
-            more.negated = insert(found.negated, p);
-            return more;
-        }
-        _ => {
-            more.other = true;
-            return more;
-        }
+        Shape::Falsum => Literals {
+            falsum: true,
+            ..found
+        },
+        Shape::Atom(p) => Literals {
+            atoms: insert(found.atoms, p),
+            ..found
+        },
+        Shape::Verum => Literals {
+            verum: true,
+            ..found
+        },
+        Shape::Negated(p) => Literals {
+            negated: insert(found.negated, p),
+            ..found
+        },
+        _ => Literals {
+            other: true,
+            ..found
+        },
     }
 }
 
@@ -59,11 +59,9 @@ fn literals_of(formulas: &[u16], side: &[u16]) -> Literals
         verum: false,
         other: false,
     };
-    let mut i = 0;
-    while i < side.len() {
-        let s = shape_of(formulas, side[i]);
+    for &x in side {
+        let s = shape_of(formulas, x);
         found = with_literal(found, s);
-        i += 1;
     }
     found
 }
@@ -88,51 +86,30 @@ fn atom_but(s: Shape, p: usize) -> bool
 fn atoms_but(formulas: &[u16], side: &[u16], p: usize) -> bool
     ensures { result ≡ atoms_but formulas.now p side.now }
 {
-    let mut i = 0;
-    while i < side.len() {
-        let s = shape_of(formulas, side[i]);
-        if !atom_but(s, p) {
-            return false;
-        }
-        i += 1;
-    }
-    true
+    side.iter().all(|&x| atom_but(shape_of(formulas, x), p))
 }
 
-// Whether L => R is an instance of `def` with this principal formula: ~p, p not among the atoms that L is.
-pub fn default_step(formulas: &[u16], principal: u16, left: &[u16], right: &[u16]) -> bool
-    ensures { DefaultStep formulas.now principal left.now right.now result }
+// Whether a row L => R is an instance of `def` with this principal formula: ~p, p not among the atoms that L is.
+pub fn default_step(formulas: &[u16], principal: u16, row: Sequent<'_>) -> bool
+    ensures { DefaultStep formulas.now principal row.entry.left.now row.entry.right.now result }
 {
     let s = shape_of(formulas, principal);
-    match s {
-        Shape::Negated(p) => {
-            if !atoms_but(formulas, left, p) {
-                return false;
-            }
-            return contains(right, principal);
-        }
-        _ => {
-            return false;
-        }
+    let Shape::Negated(p) = s else {
+        return false;
+    };
+    if !atoms_but(formulas, row.left, p) {
+        return false;
     }
+    contains(row.right, principal)
 }
 
-// Whether L;R is an instance of `xini`.
-pub fn initial_step(formulas: &[u16], left: &[u16], right: &[u16]) -> bool
-    ensures { InitialStep formulas.now left.now right.now result }
+// Whether a row L;R is an instance of `xini`.
+pub fn initial_step(formulas: &[u16], row: Sequent<'_>) -> bool
+    ensures { InitialStep formulas.now row.entry.left.now row.entry.right.now result }
 {
-    let l = literals_of(formulas, left);
-    let r = literals_of(formulas, right);
-    if l.falsum {
-        return false;
-    }
-    if l.other {
-        return false;
-    }
-    if r.verum {
-        return false;
-    }
-    if r.other {
+    let l = literals_of(formulas, row.left);
+    let r = literals_of(formulas, row.right);
+    if l.falsum || l.other || r.verum || r.other {
         return false;
     }
     if !disjoint(l.atoms, l.negated) {

@@ -37,12 +37,11 @@ use Rattle.tables.specs.declared.records.NodeRecord.{NodeRecord}
 use Rattle.tables.specs.Holding.{Formulas}
 use Rattle.tables.proofs.Reading.{Told, told, by_word, by_formula}
 use Rattle.rules.specs.RuleTable.{form_number}
-use Rattle.schema.specs.Principal.{record_at, split_in, parts_in}
-use Rattle.schema.specs.declared.parts.Parts.{Parts}
+use Rattle.schema.specs.Principal.{Apart, record_at, split_in, parts_in}
 use Rattle.schema.proofs.Splitting.{other_word, into_itself, into_one, into_two, any_form, one_word, no_negation, negated_word}
 
 -- formula p is of the form, and first and second are the numbers of its parts A and B; or it is not of the form
-pub record PartsOf (b : Body) (f : Form) (p : ℕ) (r : Parts) : Type 0 where
+pub record PartsOf (b : Body) (f : Form) (p : ℕ) (r : Apart) : Type 0 where
   pub fits : r.fits ≡ true → Fits f (decoded_at b.nodes p) (decoded_at b.nodes r.first) (decoded_at b.nodes r.second)
   pub first_known : r.fits ≡ true → r.first < length b.nodes
   pub second_known : r.fits ≡ true → r.second < length b.nodes
@@ -72,7 +71,7 @@ number_form negated_conjunction = refl
 number_form negated_disjunction = refl
 number_form negated_implication = refl
 
-module _ {b : Body} {f : Form} {p : ℕ} {r : Parts} where
+module _ {b : Body} {f : Form} {p : ℕ} {r : Apart} where
   parts_fit :
       r.fits ≡ true → Fits f (decoded_at b.nodes p) (decoded_at b.nodes r.first) (decoded_at b.nodes r.second)
       → r.first < length b.nodes → r.second < length b.nodes → PartsOf b f p r
@@ -183,7 +182,7 @@ negated negated_implication h =
 
 -- a negation is of the form if what is under it is of the form under it, and has the same parts
 negated_parts :
-    {b : Body} {f : Form} {p q : ℕ} {r : Parts} (n : Negated f) → decoded_at b.nodes p ≡ neg (decoded_at b.nodes q)
+    {b : Body} {f : Form} {p q : ℕ} {r : Apart} (n : Negated f) → decoded_at b.nodes p ≡ neg (decoded_at b.nodes q)
     → PartsOf b n.under q r → PartsOf b f p r
 negated_parts {b} {f} {p} {q} {r} n e o =
     record {
@@ -244,17 +243,17 @@ split_whole : (formulas : List ℕ) (whole at word : ℕ) → (split_in formulas
 split_whole formulas whole at word = by (ℕ_discrete (record_at formulas at).word word) (ℕ_discrete word 0) (ℕ_discrete word 2)
   where
     by : Dec ((record_at formulas at).word ≡ word) → Dec (word ≡ 0) → Dec (word ≡ 2) → (split_in formulas whole at word).whole ≡ whole
-    by (no n) z o = ap (λ (r : Parts). r.whole) (other_word formulas whole at word n)
-    by (yes w) (yes z) o = ap (λ (r : Parts). r.whole) (into_itself formulas whole at word w z)
-    by (yes w) (no n) (yes o) = ap (λ (r : Parts). r.whole) (into_one formulas whole at word w n o)
-    by (yes w) (no n) (no m) = ap (λ (r : Parts). r.whole) (into_two formulas whole at word w n m)
+    by (no n) z o = ap (λ (r : Apart). r.whole) (other_word formulas whole at word n)
+    by (yes w) (yes z) o = ap (λ (r : Apart). r.whole) (into_itself formulas whole at word w z)
+    by (yes w) (no n) (yes o) = ap (λ (r : Apart). r.whole) (into_one formulas whole at word w n o)
+    by (yes w) (no n) (no m) = ap (λ (r : Apart). r.whole) (into_two formulas whole at word w n m)
 
 pub parts_whole : (formulas : List ℕ) (form p : ℕ) → (parts_in formulas form p).whole ≡ p
 parts_whole formulas form p = by (ℕ_discrete form 1) (dec_lt form 6) (ℕ_discrete (record_at formulas p).word 2)
   where
     by : Dec (form ≡ 1) → Dec (form < 6) → Dec ((record_at formulas p).word ≡ 2) → (parts_in formulas form p).whole ≡ p
-    by (yes o) l w = ap (λ (r : Parts). r.whole) (any_form formulas form p o)
-    by (no n) (yes l) w = ap (λ (r : Parts). r.whole) (one_word formulas form p n l) ∙ split_whole formulas p p form
-    by (no n) (no m) (no w) = ap (λ (r : Parts). r.whole) (no_negation formulas form p n (omega arith) w)
+    by (yes o) l w = ap (λ (r : Apart). r.whole) (any_form formulas form p o)
+    by (no n) (yes l) w = ap (λ (r : Apart). r.whole) (one_word formulas form p n l) ∙ split_whole formulas p p form
+    by (no n) (no m) (no w) = ap (λ (r : Apart). r.whole) (no_negation formulas form p n (omega arith) w)
     by (no n) (no m) (yes w) =
-        ap (λ (r : Parts). r.whole) (negated_word formulas form p n (omega arith) w) ∙ split_whole formulas p (record_at formulas p).first (form - 4)
+        ap (λ (r : Apart). r.whole) (negated_word formulas form p n (omega arith) w) ∙ split_whole formulas p (record_at formulas p).first (form - 4)

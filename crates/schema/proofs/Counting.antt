@@ -12,10 +12,10 @@ use Rattle.sides.specs.Members.{AllRise}
 use Rattle.sides.specs.Numbers.{numbers_of, number_side}
 use Rattle.sides.specs.declared.numbers.Numbers.{Numbers}
 use Rattle.sides.proofs.SharedSides.{shared_one}
+use Rattle.schema.specs.Principal.{Apart}
 use Rattle.schema.specs.Additions.{added_in, side_in, sides_in}
-use Rattle.schema.specs.declared.parts.Parts.{Parts}
 
-module _ (formulas : List ℕ) (p : Parts) (rule place : ℕ) (side : List ℕ) where
+module _ (formulas : List ℕ) (p : Apart) (rule place : ℕ) (side : List ℕ) where
   abbrev Here : Numbers → Type 0
   Here here = here ≡ added_in formulas side p rule place
 

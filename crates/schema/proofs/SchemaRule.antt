@@ -24,9 +24,9 @@ use Rattle.rules.proofs.RuleNumbers.{rule_number_lem}
 use Rattle.sides.specs.Deciding.{DecidesIf}
 use Rattle.sides.specs.Members.{AllRise}
 use Rattle.sides.proofs.Deciding.{no_if, denied_if, iff_if}
+use Rattle.schema.specs.Principal.{Apart}
 use Rattle.schema.specs.Additions.{side_in, sides_in}
 use Rattle.schema.specs.SchemaRows.{Sides, Handed, SidesRise, parts_handed, SchemaSides, sequent_with, premises_handed, OfBody, InstanceHanded, SchemaAnswer}
-use Rattle.schema.specs.declared.parts.Parts.{Parts}
 use Rattle.schema.proofs.Apart.{PartsOf, parts_read, parts_whole}
 use Rattle.schema.proofs.Standing.{parts_at, two_parts, KnownParts, meant_by, added_stands}
 use Rattle.schema.proofs.FormulaSides.{SideStands, side_stands, SidesStand, shared_stand}
@@ -82,7 +82,7 @@ module _ {b : Body} {s : Rule} {t : Schema} {formulas : List ℕ} {h : Handed} (
   abbrev held : Held b
   held = good_held o.held.good
 
-  abbrev parts : Parts
+  abbrev parts : Apart
   parts = parts_handed h formulas
 
   few : h.count < 3
@@ -189,11 +189,11 @@ module _ (formulas : List ℕ) (h : Handed) where
   answered d = record { numbers = d; instances = λ b s t o. iff_if (schema_rule o) d }
 
   -- the answers of the tests as they run, with the parts that were read
-  module _ {p : Parts} (same : p ≡ parts_handed h formulas) where
-    abbrev left_fits : Parts → Type 0
+  module _ {p : Apart} (same : p ≡ parts_handed h formulas) where
+    abbrev left_fits : Apart → Type 0
     left_fits q = Shared (sides_in formulas q h.rule h.count 0 h.row.left h.one.left h.two.left)
 
-    abbrev right_fits : Parts → Type 0
+    abbrev right_fits : Apart → Type 0
     right_fits q = Shared (sides_in formulas q h.rule h.count 1 h.row.right h.one.right h.two.right)
 
     abbrev LeftAnswer : Bool → Type 0
@@ -203,7 +203,7 @@ module _ (formulas : List ℕ) (h : Handed) where
     RightAnswer r = DecidesIf (AllRise (h.row.right ∷ take h.count (h.one.right ∷ h.two.right ∷ []))) (right_fits p) r
 
     pub misfit_answered : p.fits ≡ false → SchemaAnswer formulas h false
-    misfit_answered e = answered (no_if (λ g k. false≢true (sym e ∙ ap (λ (q : Parts). q.fits) same ∙ k.fits)))
+    misfit_answered e = answered (no_if (λ g k. false≢true (sym e ∙ ap (λ (q : Apart). q.fits) same ∙ k.fits)))
 
     pub left_answered : {l : Bool} → LeftAnswer l → l ≡ false → SchemaAnswer formulas h false
     left_answered d e = answered (no_if (λ g k. denied_if d e g.left (subst left_fits (sym same) k.left)))
@@ -212,7 +212,7 @@ module _ (formulas : List ℕ) (h : Handed) where
     right_answered f dl e dr =
         answered (record {
           sound = λ t. record {
-            fits = sym (ap (λ (q : Parts). q.fits) same) ∙ f;
+            fits = sym (ap (λ (q : Apart). q.fits) same) ∙ f;
             left = subst left_fits same (dl.sound e);
             right = subst right_fits same (dr.sound t);
           };

@@ -1,9 +1,12 @@
 -- A formula taken apart by its record: each case of `split_in` and `parts_in`.
 use Prim.Native.Nat.{ℕ, ◌-◌, ◌≤◌, ◌<◌}
+use mathlib.Core.Bool.{Bool, true, false}
 use mathlib.Core.List.{List}
-use mathlib.Core.Path.{◌≡◌}
+use mathlib.Core.Path.{◌≡◌, refl, ap}
+use Rattle.std.specs.Prelude.{None, Some}
 use borrow.Author.Tests.{eq-eqb, ne_eqb, lt-ltb, le-ltb}
-use Rattle.schema.specs.Principal.{record_at, fitting, misfitting, split_in, parts_in}
+use Rattle.schema.specs.Principal.{Apart, record_at, fitting, misfitting, split_in, parts_in, parts_if, apart}
+use Rattle.schema.specs.declared.parts.Parts.{Parts}
 
 module _ (formulas : List ℕ) (whole at word : ℕ) where
   pub other_word : ((record_at formulas at).word ≡ word → ⊥) → split_in formulas whole at word ≡ misfitting whole
@@ -42,3 +45,19 @@ module _ (formulas : List ℕ) (form p : ℕ) where
       pub negated_word : (record_at formulas p).word ≡ 2 → parts_in formulas form p ≡ split_in formulas p (record_at formulas p).first (form - 4)
       unfolding parts_in
       negated_word e = rw (ne_eqb form 1 n, le-ltb form 6 h, eq-eqb (record_at formulas p).word 2 e)
+
+-- what the parts that are there, or none, say of the formula taken apart
+pub parts_there : (a : Apart) {p : Parts} → Some p ≡ parts_if a → apart p ≡ a
+parts_there a {p} = by a.fits a.whole a.first a.second
+  where
+    by : (fits : Bool) (w x y : ℕ) → Some p ≡ parts_if (record { fits = fits; whole = w; first = x; second = y })
+        → apart p ≡ record { fits = fits; whole = w; first = x; second = y }
+    by true w x y e = let f : p ≡ record { whole = w; first = x; second = y } = cc in ap apart f
+    by false w x y e = cc
+
+pub no_parts : (a : Apart) → None ≡ parts_if a → a.fits ≡ false
+no_parts a = by a.fits a.whole a.first a.second
+  where
+    by : (fits : Bool) (w x y : ℕ) → None ≡ parts_if (record { fits = fits; whole = w; first = x; second = y }) → fits ≡ false
+    by true w x y e = cc
+    by false w x y e = refl

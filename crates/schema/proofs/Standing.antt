@@ -28,9 +28,8 @@ use Rattle.rules.specs.RuleTable.{part_number, part_numbers, added_sides, rule_n
 use Rattle.rules.proofs.RuleNumbers.{rule_number_lem}
 use Rattle.sides.specs.Numbers.{no_number, missing}
 use Rattle.sides.specs.declared.numbers.Numbers.{Numbers}
-use Rattle.schema.specs.Principal.{record_at}
+use Rattle.schema.specs.Principal.{Apart, record_at}
 use Rattle.schema.specs.Additions.{negation_in, part_in, added_in}
-use Rattle.schema.specs.declared.parts.Parts.{Parts}
 
 -- the number stands for the formula on a side: it is the formula's number, or the formula is not on the side
 abbrev pub Stands : Body → List ℕ → Formula → ℕ → Type 0
@@ -125,17 +124,17 @@ unfolding dec_all dec_le places
 two_parts s place h = from_yes (dec_all (λ r. dec_all (λ k. dec_le (length (parts_at r k)) 2) places) rules) tt s (every_rule s) place (in_places place h)
 
 -- the principal formula and its parts have numbers
-pub record KnownParts (b : Body) (r : Parts) : Type 0 where
+pub record KnownParts (b : Body) (r : Apart) : Type 0 where
   pub whole : r.whole < length b.nodes
   pub first : r.first < length b.nodes
   pub second : r.second < length b.nodes
 
 -- what the parts of a rule mean, by the numbers of the principal formula and its parts
-abbrev pub meant_by : Body → Parts → Part → Formula
+abbrev pub meant_by : Body → Apart → Part → Formula
 meant_by b r = meant (decoded_at b.nodes r.whole) (decoded_at b.nodes r.first) (decoded_at b.nodes r.second)
 
 module _ {b : Body} {formulas : List ℕ} (g : Formulas b formulas) (side : List ℕ) (known : unknown_formula b side ≡ false)
-    (p : Parts) (parts : KnownParts b p) where
+    (p : Apart) (parts : KnownParts b p) where
   part_stands : (x : Part) → Stands b side (meant_by b p x) (part_in formulas side p (part_number x))
   unfolding part_in
   part_stands Part.P = inl (parts.whole, refl)

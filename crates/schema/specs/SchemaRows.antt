@@ -10,9 +10,8 @@ use Rattle.rules.specs.RuleTable.{rule_number}
 use Rattle.sides.specs.Deciding.{DecidesIf}
 use Rattle.sides.specs.Members.{AllRise}
 use Rattle.tables.specs.Holding.{Formulas}
-use Rattle.schema.specs.Principal.{parts_in}
+use Rattle.schema.specs.Principal.{Apart, parts_in}
 use Rattle.schema.specs.Additions.{sides_in}
-use Rattle.schema.specs.declared.parts.Parts.{Parts}
 
 -- the antecedent and the succedent of a sequent, as numbers
 pub record Sides : Type 0 where
@@ -46,7 +45,7 @@ module _ (h : Handed) where
 
   module _ (formulas : List ℕ) where
     -- the principal formula and its parts, by the form that the rule asks for
-    abbrev pub parts_handed : Parts
+    abbrev pub parts_handed : Apart
     parts_handed = parts_in formulas (rule_number h.rule 0) h.principal
 
     -- the principal formula is of the form; some L gives the left sides and some R the right sides, each with what is added

@@ -9,6 +9,7 @@ ghost use Rattle.std.specs.Prelude.{◌≡◌, [], ◌∷◌, ◌+◌, ◌<◌};
 ghost use Rattle.elk.specs.CommonSets.{Shared};
 ghost use Rattle.sides.specs.Deciding.{DecidesIf};
 ghost use Rattle.sides.specs.Members.{AllRise};
+ghost use Rattle.schema.specs.Principal.{apart};
 ghost use Rattle.schema.specs.Additions.{side_in};
 ghost use Rattle.schema.specs.SchemaRows.{◌⊣◌, SchemaAnswer};
 
@@ -16,6 +17,7 @@ use additions::added;
 use parts::{Parts, parts_of};
 use rules::{STEP, rule_number};
 use sides::fitting::{fit, holds, three_fit};
+use sides::sequents::Sequent;
 
 // The places of the conclusion's sides among what a rule adds; each premise's follow by two.
 const LEFT: usize = 0;
@@ -27,7 +29,7 @@ const RIGHT: usize = 1;
 fn fits_alone(formulas: &[u16], rule: u16, p: Parts, place: usize, side: &[u16]) -> bool
     requires { place < 2 }
     ensures { DecidesIf (AllRise (side.now ∷ []))
-        (Shared (side_in formulas.now p rule place side.now ∷ [])) result }
+        (Shared (side_in formulas.now (apart p) rule place side.now ∷ [])) result }
 {
     let here = added(formulas, side, p, rule, place);
     holds(side, here)
@@ -37,8 +39,8 @@ fn fits_alone(formulas: &[u16], rule: u16, p: Parts, place: usize, side: &[u16])
 fn fits_one(formulas: &[u16], rule: u16, p: Parts, place: usize, side: &[u16], one: &[u16]) -> bool
     requires { place < 2 }
     ensures { DecidesIf (AllRise (side.now ∷ one.now ∷ []))
-        (Shared (side_in formulas.now p rule place side.now
-        ∷ side_in formulas.now p rule (place + 2) one.now ∷ [])) result }
+        (Shared (side_in formulas.now (apart p) rule place side.now
+        ∷ side_in formulas.now (apart p) rule (place + 2) one.now ∷ [])) result }
 {
     let here = added(formulas, side, p, rule, place);
     let at_one = added(formulas, one, p, rule, place + 2);
@@ -57,20 +59,14 @@ fn fits_two(
 ) -> bool
     requires { place < 2 }
     ensures { DecidesIf (AllRise (side.now ∷ one.now ∷ two.now ∷ []))
-        (Shared (side_in formulas.now p rule place side.now
-        ∷ side_in formulas.now p rule (place + 2) one.now
-        ∷ side_in formulas.now p rule (place + 4) two.now ∷ [])) result }
+        (Shared (side_in formulas.now (apart p) rule place side.now
+        ∷ side_in formulas.now (apart p) rule (place + 2) one.now
+        ∷ side_in formulas.now (apart p) rule (place + 4) two.now ∷ [])) result }
 {
     let here = added(formulas, side, p, rule, place);
     let at_one = added(formulas, one, p, rule, place + 2);
     let at_two = added(formulas, two, p, rule, place + 4);
     three_fit(side, here, one, at_one, two, at_two)
-}
-
-fn small(x: u8) -> u16
-    ensures { result ≡ x }
-{
-    x as u16
 }
 
 // Whether a row with these sides is an instance of its rule, one of the table, with as many of the two premises as it has.
@@ -79,42 +75,42 @@ pub fn schema_step(
     rule: u16,
     principal: u16,
     premises: usize,
-    left: &[u16],
-    right: &[u16],
-    left_one: &[u16],
-    right_one: &[u16],
-    left_two: &[u16],
-    right_two: &[u16],
+    row: Sequent<'_>,
+    one: Sequent<'_>,
+    two: Sequent<'_>,
 ) -> bool
     ensures { SchemaAnswer formulas.now
         (record {
           rule = rule;
           principal = principal;
           count = premises;
-          row = left.now ⊣ right.now;
-          one = left_one.now ⊣ right_one.now;
-          two = left_two.now ⊣ right_two.now;
+          row = row.entry.left.now ⊣ row.entry.right.now;
+          one = one.entry.left.now ⊣ one.entry.right.now;
+          two = two.entry.left.now ⊣ two.entry.right.now;
         }) result }
 {
-    let form = small(rule_number(rule, STEP));
-    let p = parts_of(formulas, form, principal);
-    if !p.fits {
+    let form = u16::from(rule_number(rule, STEP));
+    let Some(p) = parts_of(formulas, form, principal) else {
         return false;
-    }
-    if premises == 0 {
-        if !fits_alone(formulas, rule, p, LEFT, left) {
-            return false;
+    };
+    match premises {
+        0 => {
+            if !fits_alone(formulas, rule, p, LEFT, row.left) {
+                return false;
+            }
+            fits_alone(formulas, rule, p, RIGHT, row.right)
         }
-        return fits_alone(formulas, rule, p, RIGHT, right);
-    }
-    if premises == 1 {
-        if !fits_one(formulas, rule, p, LEFT, left, left_one) {
-            return false;
+        1 => {
+            if !fits_one(formulas, rule, p, LEFT, row.left, one.left) {
+                return false;
+            }
+            fits_one(formulas, rule, p, RIGHT, row.right, one.right)
         }
-        return fits_one(formulas, rule, p, RIGHT, right, right_one);
+        _ => {
+            if !fits_two(formulas, rule, p, LEFT, row.left, one.left, two.left) {
+                return false;
+            }
+            fits_two(formulas, rule, p, RIGHT, row.right, one.right, two.right)
+        }
     }
-    if !fits_two(formulas, rule, p, LEFT, left, left_one, left_two) {
-        return false;
-    }
-    fits_two(formulas, rule, p, RIGHT, right, right_one, right_two)
 }

@@ -10,6 +10,8 @@ use mathlib.Core.Path.{◌≡◌, refl, sym, ap, ap₂, subst, ◌∙◌}
 use borrow.Author.Tests.{eqb-true, eq-eqb, ne_eqb, lt-ltb}
 use lib.Dec.{eqb, ltb, eqb-suc-zero}
 use lib.ListN.{length, get_or, drop}
+use Rattle.std.specs.Prelude.{Option as Given, None, Some}
+use Rattle.std.specs.Option.{option_eq}
 use Rattle.equilibrium.specs.Meaning.{◌∈◌}
 use Rattle.elk.specs.Instance.{chosen, put}
 use Rattle.elk.specs.Instance.{Choice as Chosen}
@@ -19,7 +21,9 @@ use Rattle.atomset.proofs.Digits.{has_zero}
 use Rattle.atomset.proofs.Membership.{member_lt}
 use Rattle.atomset.proofs.Members.{member_members}
 use Rattle.shapes.specs.Shapes.{shape_in}
-use Rattle.unstable.specs.Joins.{sign_of, with_sign, conjuncts, disjuncts, with, choice_in, Chooses, middle_in, middles_in}
+use Rattle.unstable.specs.declared.joins.Sign.{Sign}
+use Rattle.unstable.specs.declared.joins.Sign.TheVariants.{Plain, Negated}
+use Rattle.unstable.specs.Joins.{sign_of, sign_number, with_sign, conjuncts, disjuncts, with, choice_in, Chooses, middle_in, middles_in}
 use Rattle.shapes.specs.declared.Shape.{Shape}
 use Rattle.shapes.specs.declared.Shape.TheVariants.{Conjunction, Disjunction}
 
@@ -49,6 +53,23 @@ member_sign set more p t h e i = (λ m. to (has set i) t (sym (e i) ∙ m), λ s
     from false true (inr k) = (and-eq-true_iff (eqb i p) (ltb p 64)).1 (eq-eqb i p k.1, lt-ltb p 64 h)
     from false false (inl k) = absurd (false≢true k)
     from false false (inr k) = absurd (false≢true k.0)
+
+-- a sign that was found has not the number of none
+pub sign_there : (s : Sign) → sign_number (Some s) ≢ 0
+sign_there Plain e = omega arith
+sign_there Negated e = omega arith
+
+-- a sign compared as an enum is compared by its number
+module _ (eq : Sign → Sign → Bool) where
+  pub is_plain : eq Plain Plain ≡ true → eq Negated Plain ≡ false → (o : Given Sign) → option_eq eq o (Some Plain) ≡ eqb (sign_number o) 1
+  is_plain h n None = refl
+  is_plain h n (Some Plain) = h
+  is_plain h n (Some Negated) = n
+
+  pub is_negated : eq Plain Negated ≡ false → eq Negated Negated ≡ true → (o : Given Sign) → option_eq eq o (Some Negated) ≡ eqb (sign_number o) 2
+  is_negated n h None = refl
+  is_negated n h (Some Plain) = n
+  is_negated n h (Some Negated) = h
 
 signed : (sign p : ℕ) (rest : Option Chosen) → sign ≢ 0 → with_sign sign p rest ≡ ((λ c. (p, eqb sign 1) ∷ c) <$> rest)
 signed sign p rest n = ap (λ (t : Bool). cond t none ((λ c. (p, eqb sign 1) ∷ c) <$> rest)) (ne_eqb sign 0 n)
@@ -88,8 +109,8 @@ onward_starts formulas k p ps set h none_in = record {
 }
 
 module _ {whole : Option Chosen} {formulas : List ℕ} {at p : ℕ} {ps : List ℕ} {set : ℕ} (o : Onward whole formulas at p ps set) where
-  onward_fails : choice_in formulas at p ps ≡ none → Chooses whole (record { made = false; set = 0 })
-  onward_fails e = record { refused = λ f. o.refused e; made = λ f. absurd (false≢true f) }
+  onward_fails : choice_in formulas at p ps ≡ none → Chooses whole None
+  onward_fails e = o.refused e
 
   -- one atom more is read, with the sign of its formula
   taken :
@@ -128,22 +149,19 @@ module _ {whole : Option Chosen} {formulas : List ℕ} {at p set : ℕ} where
 
   unsigned_next :
       {q x y sign : ℕ} {qs : List ℕ} → Onward whole formulas at p (q ∷ qs) set → shape_in formulas at ≡ Conjunction x y
-      → sign ≡ sign_of (shape_in formulas x) p → sign ≡ 0 → Chooses whole (record { made = false; set = 0 })
+      → sign ≡ sign_of (shape_in formulas x) p → sign ≡ 0 → Chooses whole None
   unsigned_next {q} {y} {qs} o e k n = onward_fails o (choice_both formulas at p q qs e ∙ unsigned _ p (choice_in formulas y q qs) (sym k ∙ n))
 
   -- the last atom is read off the whole formula
   onward_last : (more : ℕ) {sign : ℕ} → Onward whole formulas at p [] set → sign ≡ sign_of (shape_in formulas at) p → sign ≢ 0
-      → ((i : ℕ) → has more i ≡ (has set i || (eqb sign 1 && is i p))) → Chooses whole (record { made = true; set = more })
+      → ((i : ℕ) → has more i ≡ (has set i || (eqb sign 1 && is i p))) → Chooses whole (Some more)
   onward_last more {sign} o k n m =
       let t = (taken o more (some []) n (choice_last formulas at p ∙ ap (λ (s : ℕ). with_sign s p (some [])) (sym k)) m).1 [] refl in
-      record {
-        refused = λ f. absurd (true≢false f);
-        made = λ f. (t.0, t.1, λ i. (λ h. (t.2 i).1 (inl h), λ h. ⊎_elim (λ l. l) (λ l. absurd (Memᴰ.not-nil l)) ((t.2 i).0 h)));
-      }
+      (t.0, t.1, λ i. (λ h. (t.2 i).1 (inl h), λ h. ⊎_elim (λ l. l) (λ l. absurd (Memᴰ.not-nil l)) ((t.2 i).0 h)))
 
   unsigned_last :
       {sign : ℕ} → Onward whole formulas at p [] set → sign ≡ sign_of (shape_in formulas at) p → sign ≡ 0
-      → Chooses whole (record { made = false; set = 0 })
+      → Chooses whole None
   unsigned_last o k n = onward_fails o (choice_last formulas at p ∙ unsigned _ p (some []) (sym k ∙ n))
 
 -- E, an atom at a time
@@ -265,11 +283,11 @@ module _ {formulas : List ℕ} {k v p rest at set : ℕ} (g : Reading formulas k
 
     pub reading_no_conjunction :
         conjuncts (shape_in formulas at) ≡ none → (q : ℕ) (qs : List ℕ) → members v ≡ q ∷ qs
-        → Chooses (choice_in formulas k q qs) (record { made = false; set = 0 })
+        → Chooses (choice_in formulas k q qs) None
     reading_no_conjunction c q qs h = onward_fails (here q qs h) (choice_none formulas at p next later c)
 
     module _ {x y sign : ℕ} (s : shape_in formulas at ≡ Conjunction x y) (f : sign ≡ sign_of (shape_in formulas x) p) where
-      pub reading_unsigned : sign ≡ 0 → (q : ℕ) (qs : List ℕ) → members v ≡ q ∷ qs → Chooses (choice_in formulas k q qs) (record { made = false; set = 0 })
+      pub reading_unsigned : sign ≡ 0 → (q : ℕ) (qs : List ℕ) → members v ≡ q ∷ qs → Chooses (choice_in formulas k q qs) None
       reading_unsigned z q qs h = unsigned_next (here q qs h) s f z
 
       pub reading_next :
@@ -292,10 +310,10 @@ module _ {formulas : List ℕ} {k v p rest at set : ℕ} (g : Reading formulas k
     last : (q : ℕ) (qs : List ℕ) → members v ≡ q ∷ qs → Onward (choice_in formulas k q qs) formulas at p [] set
     last q qs h = subst (λ (is : List ℕ). Onward (choice_in formulas k q qs) formulas at p is set) (none_left (members rest) e n) (g.onward q qs h)
 
-    pub reading_unsigned_last : sign ≡ 0 → (q : ℕ) (qs : List ℕ) → members v ≡ q ∷ qs → Chooses (choice_in formulas k q qs) (record { made = false; set = 0 })
+    pub reading_unsigned_last : sign ≡ 0 → (q : ℕ) (qs : List ℕ) → members v ≡ q ∷ qs → Chooses (choice_in formulas k q qs) None
     reading_unsigned_last z q qs h = unsigned_last (last q qs h) f z
 
     pub reading_ends :
         (more : ℕ) → sign ≢ 0 → ((i : ℕ) → has more i ≡ (has set i || (eqb sign 1 && is i p))) → (q : ℕ) (qs : List ℕ) → members v ≡ q ∷ qs
-        → Chooses (choice_in formulas k q qs) (record { made = true; set = more })
+        → Chooses (choice_in formulas k q qs) (Some more)
     reading_ends more z m q qs h = onward_last more (last q qs h) f z m

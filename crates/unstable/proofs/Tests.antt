@@ -14,7 +14,7 @@ use Rattle.atomset.specs.AtomSet.{Member, members}
 use Rattle.sides.specs.Members.{AllRise}
 use Rattle.sides.specs.Deciding.{DecidesIf}
 use Rattle.sides.proofs.Deciding.{decides_no, decides_iff, no_if, decided}
-use Rattle.unstable.specs.declared.joins.Choice.{Choice}
+use Rattle.std.specs.Prelude.{None, Some}
 use Rattle.unstable.specs.Joins.{choice_in, Chooses, middles_in}
 use Rattle.unstable.specs.Fixing.{Fixes}
 use Rattle.unstable.specs.Unstable.{occurs_on, WordOf, Reads, UnstableIn, UnstableStep}
@@ -86,33 +86,33 @@ module _ (formulas notes left leftOne rightOne leftTwo rightTwo : List ℕ) wher
     no_atoms e t = fails (λ u. no_member (members v) e t (reads_v u).all)
 
     -- what K makes of V
-    module _ {r : Choice} (chooses : (p : ℕ) (ps : List ℕ) → members v ≡ p ∷ ps → Chooses (choice_in formulas (get_or rightOne 0 0) p ps) r) where
-      pub no_choice : r.made ≡ false → Step false
-      no_choice m = fails (λ u. let f = reads_v u in not_refused ((chooses f.p f.ps f.all).refused m) (at_k f))
-        where
-          at_k : {k e : ℕ} {c : Chosen} → (f : Read v k e c) → choice_in formulas (get_or rightOne 0 0) f.p f.ps ≡ some c
-          at_k f = ap (λ (xs : List ℕ). choice_in formulas (get_or xs 0 0) f.p f.ps) f.first_right ∙ f.read
+    pub no_choice :
+        {k : ℕ} → k ≡ get_or rightOne 0 0 → ((p : ℕ) (ps : List ℕ) → members v ≡ p ∷ ps → Chooses (choice_in formulas k p ps) None) → Step false
+    no_choice {k} e chooses = fails (λ u. let f = reads_v u in not_refused (chooses f.p f.ps f.all) (at_k f))
+      where
+        at_k : {k' e : ℕ} {c : Chosen} → (f : Read v k' e c) → choice_in formulas k f.p f.ps ≡ some c
+        at_k f = ap (λ (k : ℕ). choice_in formulas k f.p f.ps) (e ∙ ap (λ (xs : List ℕ). get_or xs 0 0) f.first_right) ∙ f.read
 
-      pub read_by :
-          left ≡ leftOne → length rightOne ≡ 1 → length rightTwo ≡ 1 → {empty : Bool} → empty ≡ eqb (length (members v)) 0 → empty ≡ false
-          → r.made ≡ true → r.set < 2 ^ 64
-          → (c : Chosen) × Read v (get_or rightOne 0 0) (get_or rightTwo 0 0) c × WordOf (λ p. p ∈ chosen c) r.set
-      read_by same one two e n made small =
-          let all = more_there (members v) e n in
-          let m = (chooses _ _ all).made made in (
-            m.0,
-            record {
-              same_left = same;
-              first_right = single rightOne one;
-              second_right = single rightTwo two;
-              atoms = is-v;
-              p = get_or (members v) 0 64;
-              ps = drop 1 (members v);
-              all = all;
-              read = m.1;
-            },
-            record { small = small; its = m.2 },
-          )
+    pub read_by :
+        {k set : ℕ} → k ≡ get_or rightOne 0 0 → ((p : ℕ) (ps : List ℕ) → members v ≡ p ∷ ps → Chooses (choice_in formulas k p ps) (Some set))
+        → left ≡ leftOne → length rightOne ≡ 1 → length rightTwo ≡ 1 → {empty : Bool} → empty ≡ eqb (length (members v)) 0 → empty ≡ false
+        → set < 2 ^ 64 → (c : Chosen) × Read v k (get_or rightTwo 0 0) c × WordOf (λ p. p ∈ chosen c) set
+    read_by {k} {set} first chooses same one two e n small =
+        let all = more_there (members v) e n in
+        let m = chooses _ _ all in (
+          m.0,
+          record {
+            same_left = same;
+            first_right = single rightOne one ∙ ap (λ (x : ℕ). x ∷ []) (sym first);
+            second_right = single rightTwo two;
+            atoms = is-v;
+            p = get_or (members v) 0 64;
+            ps = drop 1 (members v);
+            all = all;
+            read = m.1;
+          },
+          record { small = small; its = m.2 },
+        )
 
     -- K makes the choice c, and `set` is the word of its S
     module _ {k e : ℕ} {c : Chosen} (f : Read v k e c) {set : ℕ} (is_set : WordOf (λ p. p ∈ chosen c) set) where

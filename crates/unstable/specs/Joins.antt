@@ -1,6 +1,7 @@
 -- The formulas that join others in `unst`, by the shapes of formulas in any table: the choice that K makes, and whether E joins
 -- the excluded middles of S.
-use Rattle.std.specs.Prelude.{ℕ, Bool, true, false, cond, ◌&&◌, List, [], ◌∷◌, ◌≡◌, ◌↔◌, eqb}
+use Rattle.std.specs.Prelude.{ℕ, Bool, false, cond, ◌&&◌, List, [], ◌∷◌, ◌≡◌, ◌↔◌, eqb}
+use Rattle.std.specs.Prelude.{Option as Given, None, Some}
 use Rattle.std.proofs.Math.Option.{Option, none, some}
 use Rattle.equilibrium.specs.Meaning.{◌∈◌}
 use Rattle.elk.specs.Instance.{chosen}
@@ -10,7 +11,8 @@ use Rattle.atomset.specs.AtomSet.{Member}
 use Rattle.shapes.specs.Shapes.{shape_in}
 use Rattle.shapes.specs.declared.Shape.{Shape}
 use Rattle.shapes.specs.declared.Shape.TheVariants.{Falsum, Atom, Verum, Negated, Doubled, Conjunction, Disjunction, Other}
-use Rattle.unstable.specs.declared.joins.Choice.{Choice}
+use Rattle.unstable.specs.declared.joins.Sign.{Sign}
+use Rattle.unstable.specs.declared.joins.Sign.TheVariants.{Plain, Negated as Denied}
 
 -- how a formula of this shape has atom p: 1 for p itself, 2 for ~p, 0 for neither
 abbrev pub sign_of : Shape → ℕ → ℕ
@@ -22,6 +24,12 @@ sign_of (Doubled q) p = 0
 sign_of (Conjunction i j) p = 0
 sign_of (Disjunction i j) p = 0
 sign_of Other p = 0
+
+-- the number of a sign that was found, or of none
+abbrev pub sign_number : Given Sign → ℕ
+sign_number None = 0
+sign_number (Some Plain) = 1
+sign_number (Some Denied) = 2
 
 -- one atom more, by its sign
 abbrev pub with_sign : ℕ → ℕ → Option Chosen → Option Chosen
@@ -58,10 +66,10 @@ choice_in formulas k p [] = with_sign (sign_of (shape_in formulas k) p) p (some 
 choice_in formulas k p (q ∷ qs) =
     with (conjuncts (shape_in formulas k)) none (λ o. with_sign (sign_of (shape_in formulas o.0) p) p (choice_in formulas o.1 q qs))
 
--- the answer is that choice
-pub record Chooses (read : Option Chosen) (r : Choice) : Type 0 where
-  pub refused : r.made ≡ false → read ≡ none
-  pub made : r.made ≡ true → (c : Chosen) × (read ≡ some c) × ((i : ℕ) → Member i r.set ↔ (i ∈ chosen c))
+-- the answer is the set of that choice, or none where there is none
+abbrev pub Chooses : Option Chosen → Given ℕ → Type 0
+Chooses read None = read ≡ none
+Chooses read (Some set) = (c : Chosen) × (read ≡ some c) × ((i : ℕ) → Member i set ↔ (i ∈ chosen c))
 
 -- formula x is p|~p
 unfoldable pub middle_in : List ℕ → ℕ → ℕ → Bool

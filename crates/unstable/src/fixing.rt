@@ -39,13 +39,10 @@ pub(crate) fn fixes(formulas: &[u16], side: &[u16], l: &[u16], set: u64, others:
         (Fixes formulas.now side.now l.now set others) result }
 {
     let mut fixed = 0;
-    let mut i = 0;
     let mut j = 0;
-    while i < side.len() {
-        let x = side[i];
+    for &x in side {
         let by_x = fixed_by(formulas, x, set, others);
         fixed = union(fixed, by_x);
-        i += 1;
         if stands(l, j, x) {
             j += 1;
             continue;

@@ -1,69 +1,53 @@
 // The formulas that join others in `unst`: K, off which S is read, and E, the excluded middles of S. Both are walked along the
 // atoms of a word in rising order.
-ghost use Rattle.std.specs.Prelude.{◌≡◌, ◌&&◌, ◌||◌, List, ◌∷◌, ℕ, eqb, ltb, get_or, drop};
+ghost use Rattle.std.specs.Prelude.{Some, ◌≡◌, ◌&&◌, ◌||◌, List, ◌∷◌, ℕ, eqb, ltb, get_or, drop};
 ghost use Rattle.atomset.specs.AtomSet.{members};
 ghost use Rattle.atomset.specs.AtomSet.{has as hasAtom};
 ghost use Rattle.shapes.specs.Shapes.{shape_in};
-ghost use Rattle.unstable.specs.Joins.{sign_of, choice_in, Chooses, middle_in, middles_in};
+ghost use Rattle.unstable.specs.Joins.{sign_number, sign_of, choice_in, Chooses, middle_in, middles_in};
 
 use atomset::{first as lowest, insert, is_empty, without_first};
 use shapes::{Shape, shape_of};
 
-// How a formula has atom p: 1 for p itself, 2 for ~p, 0 for neither.
-fn sign_of(s: Shape, p: usize) -> u8
-    ensures { result ≡ sign_of s p }
+// How a formula has an atom p: as p itself or as ~p.
+#[derive(Clone, Copy, PartialEq, Eq)]
+enum Sign {
+    Plain,
+    Negated,
+}
+
+// How a formula of this shape has atom p, if it does.
+fn sign_of(s: Shape, p: usize) -> Option<Sign>
+    ensures { sign_number result ≡ sign_of s p }
 {
     match s {
-        Shape::Atom(q) => {
-            if q == p {
-                return 1;
-            }
-            return 0;
-        }
-        Shape::Negated(q) => {
-            if q == p {
-                return 2;
-            }
-            return 0;
-        }
-        _ => {
-            return 0;
-        }
+        Shape::Atom(q) => { if q == p { Some(Sign::Plain) } else { None } }
+        Shape::Negated(q) => { if q == p { Some(Sign::Negated) } else { None } }
+        _ => None,
     }
 }
 
-fn sign_in(formulas: &[u16], x: u16, p: usize) -> u8
-    ensures { result ≡ sign_of (shape_in formulas.now x) p }
+fn sign_in(formulas: &[u16], x: u16, p: usize) -> Option<Sign>
+    ensures { sign_number result ≡ sign_of (shape_in formulas.now x) p }
 {
-    let s = shape_of(formulas, x);
-    sign_of(s, p)
+    sign_of(shape_of(formulas, x), p)
 }
 
-// The set with p, if its sign is 1.
-fn with_sign(set: u64, p: usize, sign: u8) -> u64
-    ensures { (i : ℕ) → hasAtom result i ≡ (hasAtom set i || (eqb sign 1 && (eqb i p && ltb p 64))) }
+// The set with p, unless its sign is that of ~p.
+fn with_sign(set: u64, p: usize, sign: Sign) -> u64
+    ensures { (i : ℕ) → hasAtom result i ≡ (hasAtom set i || (eqb (sign_number (Some sign)) 1 && (eqb i p && ltb p 64))) }
 {
-    if sign == 1 {
-        return insert(set, p);
+    match sign {
+        Sign::Plain => insert(set, p),
+        Sign::Negated => set,
     }
-    set
 }
 
-// S, where K joins literals of all atoms of V.
-#[derive(Clone, Copy)]
-pub(crate) struct Choice {
-    pub made: bool,
-    pub set: u64,
-}
-
-// S read off K along the atoms of V in rising order; V is not empty.
-pub(crate) fn choice_by(formulas: &[u16], k: u16, v: u64) -> Choice
+// S, read off K along the atoms of V in rising order, where K joins literals of all of them; V is not empty. A `for` over the atoms is
+// no plainer here and in `joins_middles`: the last of them is not read off a conjunction.
+pub(crate) fn choice_by(formulas: &[u16], k: u16, v: u64) -> Option<u64>
     ensures { (p : ℕ) (ps : List ℕ) → members v ≡ p ∷ ps → Chooses (choice_in formulas.now k p ps) result }
 {
-    let refused = Choice {
-        made: false,
-        set: 0,
-    };
     let mut p = lowest(v);
     let mut rest = without_first(v);
     let mut at = k;
@@ -71,23 +55,16 @@ pub(crate) fn choice_by(formulas: &[u16], k: u16, v: u64) -> Choice
     while !is_empty(rest) {
         let s = shape_of(formulas, at);
         let Shape::Conjunction(x, y) = s else {
-            return refused;
+            return None;
         };
-        let sign = sign_in(formulas, x, p);
-        if sign == 0 {
-            return refused;
-        }
+        let sign = sign_in(formulas, x, p)?;
         set = with_sign(set, p, sign);
         at = y;
         p = lowest(rest);
         rest = without_first(rest);
     }
-    let sign = sign_in(formulas, at, p);
-    if sign == 0 {
-        return refused;
-    }
-    set = with_sign(set, p, sign);
-    Choice { made: true, set }
+    let sign = sign_in(formulas, at, p)?;
+    Some(with_sign(set, p, sign))
 }
 
 // Whether formula x is p|~p.
@@ -98,10 +75,10 @@ fn excluded_middle(formulas: &[u16], x: u16, p: usize) -> bool
     let Shape::Disjunction(i, j) = s else {
         return false;
     };
-    if sign_in(formulas, i, p) != 1 {
+    if sign_in(formulas, i, p) != Some(Sign::Plain) {
         return false;
     }
-    sign_in(formulas, j, p) == 2
+    sign_in(formulas, j, p) == Some(Sign::Negated)
 }
 
 // Whether formula e joins p|~p for the atoms of S in rising order.

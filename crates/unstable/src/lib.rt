@@ -14,17 +14,15 @@ use fixing::fixes;
 use joins::{choice_by, joins_middles};
 use known::index::note;
 use sides::members::same;
-use tables::records::wide;
+use sides::sequents::Sequent;
 
 // The atoms of the formulas of a side.
 fn atoms_of_side(notes: &[u64], side: &[u16]) -> u64
     ensures { (p : ℕ) → hasAtom result p ≡ occurs_on notes.now side.now p }
 {
     let mut set = 0;
-    let mut i = 0;
-    while i < side.len() {
-        set = union(set, note(notes, wide(side[i])));
-        i += 1;
+    for &x in side {
+        set = union(set, note(notes, usize::from(x)));
     }
     set
 }
@@ -34,37 +32,33 @@ pub fn unstable_step(
     formulas: &[u16],
     notes: &[u64],
     left: &[u16],
-    left_one: &[u16],
-    right_one: &[u16],
-    left_two: &[u16],
-    right_two: &[u16],
+    one: Sequent<'_>,
+    two: Sequent<'_>,
 ) -> bool
-    ensures { UnstableStep formulas.now notes.now left.now left_one.now
-        right_one.now left_two.now right_two.now result }
+    ensures { UnstableStep formulas.now notes.now left.now one.entry.left.now
+        one.entry.right.now two.entry.left.now two.entry.right.now result }
 {
-    if !same(left, left_one) {
+    if !same(left, one.left) {
         return false;
     }
-    if right_one.len() != 1 {
+    let &[k] = one.right else {
         return false;
-    }
-    if right_two.len() != 1 {
+    };
+    let &[e] = two.right else {
         return false;
-    }
+    };
     let v = atoms_of_side(notes, left);
     if is_empty(v) {
         return false;
     }
-    let c = choice_by(formulas, right_one[0], v);
-    if !c.made {
+    let Some(set) = choice_by(formulas, k, v) else {
         return false;
-    }
-    let set = c.set;
+    };
     if is_empty(set) {
         return false;
     }
-    if !joins_middles(formulas, right_two[0], set) {
+    if !joins_middles(formulas, e, set) {
         return false;
     }
-    fixes(formulas, left_two, left, set, difference(v, set))
+    fixes(formulas, two.left, left, set, difference(v, set))
 }

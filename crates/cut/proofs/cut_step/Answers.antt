@@ -5,9 +5,8 @@ use mathlib.Core.Bool.{false≢true}
 use mathlib.Core.Path.{sym, ◌∙◌}
 use borrow.Author.Rules.{rules}
 use Rattle.sides.proofs.Deciding.{no_if, denied_if}
-use Rattle.sides.proofs.NumberSides.{small}
 use Rattle.sides.proofs.Sets.{member_iff}
-use Rattle.cut.proofs.CutTests.{second_fits, first_covered, second_covered}
+use Rattle.cut.proofs.CutTests.{second_fits}
 use Rattle.cut.proofs.cut_step.Goals as goal
 
 pub returns-then-not-fit : goal.returns-then-not-fit
@@ -16,38 +15,32 @@ returns-then-not-fit c = no_if (λ (l, (r, (l₁, others))) k. denied_if c.fit.e
 pub returns-then-not-fit-2 : goal.returns-then-not-fit-2
 returns-then-not-fit-2 c =
     let args = c.args in
-    let second = second_fits c.number-n.ensures (search rules) args.left.now args.left_two.now in
+    let second = second_fits c.number.ensures (search rules) args.row.left.now args.two.left.now in
     no_if (λ (l, (r, (l₁, (r₁, (l₂, others))))) k. denied_if c.fit-2.ensures c.if-not-fit-2.true (l, (l₂, tt)) (second.0 k.second_left))
 
 pub returns-then-not-contains : goal.returns-then-not-contains
 returns-then-not-contains c = no_if (λ g k. false≢true (sym c.if-not-contains.true ∙ c.contains.ensures ∙ (member_iff _ _).1 k.principal))
 
-pub returns-then-not-covered : goal.returns-then-not-covered
-returns-then-not-covered c =
-    let e = c.number-n.ensures in
-    no_if (λ (l, (r, (l₁, (r₁, others)))) k. denied_if c.covered.ensures c.if-not-covered.true (r₁, (r, tt))
-    (λ z m u v. k.first_right z m (λ i. u (i ∙ sym e))))
+pub returns-then-not-covered_but : goal.returns-then-not-covered_but
+returns-then-not-covered_but c =
+    no_if (λ (l, (r, (l₁, (r₁, others)))) k. denied_if c.covered_but.ensures c.if-not-covered_but.true (r₁, (r, tt)) k.first_right)
 
-pub returns-then-not-covered-2 : goal.returns-then-not-covered-2
-returns-then-not-covered-2 c =
-    no_if (λ (l, (r, (l₁, (r₁, (l₂, (r₂, t)))))) k. denied_if c.covered-2.ensures c.if-not-covered-2.true (r₂, (r, tt))
-    (λ z m u v. k.second_right z m))
+pub returns-then-not-all_covered : goal.returns-then-not-all_covered
+returns-then-not-all_covered c =
+    no_if (λ (l, (r, (l₁, (r₁, (l₂, (r₂, t)))))) k. denied_if c.all_covered.ensures c.if-not-all_covered.true (r₂, (r, tt)) k.second_right)
 
 pub returns : goal.returns
 returns c =
     let args = c.args in
-    let e = c.number-n.ensures in
     let fits : args.principal < 65536 = omega (arith, c.ranges.principal) in
-    let second = second_fits e fits args.left.now args.left_two.now in
-    let small₁ = small args.right_one.now (λ i. omega (arith, c.type_inv.right_one i)) in
-    let small₂ = small args.right_two.now (λ i. omega (arith, c.type_inv.right_two i)) in
+    let second = second_fits c.number.ensures fits args.row.left.now args.two.left.now in
     record {
       sound = λ t. record {
         first_left = c.fit.ensures.sound c.if-not-fit.false;
         second_left = second.1 (c.fit-2.ensures.sound c.if-not-fit-2.false);
         principal = (member_iff _ _).0 (sym c.contains.ensures ∙ c.if-not-contains.false);
-        first_right = first_covered e fits _ _ small₁ (c.covered.ensures.sound c.if-not-covered.false);
-        second_right = second_covered _ _ small₂ (c.covered-2.ensures.sound c.if-not-covered-2.false);
+        first_right = c.covered_but.ensures.sound c.if-not-covered_but.false;
+        second_right = c.all_covered.ensures.sound c.if-not-all_covered.false;
         both_right = c.covered_by_either.ensures.sound t;
       };
       complete = λ (l, (r, (l₁, (r₁, (l₂, (r₂, t)))))) k. c.covered_by_either.ensures.complete (r, (r₁, (r₂, tt))) k.both_right;

@@ -1,46 +1,42 @@
-use Prim.Native.Nat.{ℕ, ◌+◌, ◌≤◌, ◌<◌}
-use native.Mathlib.Numerals.{add-one}
-use mathlib.Core.Bool.{Bool, true, false, ◌&&◌}
-use mathlib.Core.List.{List}
-use mathlib.Core.Path.{◌≡◌, sym, ap, ◌∙◌}
-use lib.ListN.{length, get_or, drop, drop_of_length-le}
-use lib.Seq.{drop-cons}
-use Rattle.shapes.specs.Shapes.{shape_in}
-use Rattle.shapes.specs.declared.Shape.{Shape}
-use Rattle.literals.specs.Literals.{atom_but, atoms_but}
+-- `literals::atoms_but` meets its contract: the closure tests the shape of each formula.
+use Prim.Native.Nat.{ℕ, zero, suc, ◌<◌}
+use native.Mathlib.Omega.{arith}
+use mathlib.Core.Bool.{Bool, true, false, ◌&&◌, and-false}
+use mathlib.Core.List.{List, [], ◌∷◌}
+use mathlib.Core.Path.{◌≡◌, refl, sym, ap, ap₂, ◌∙◌}
+use lib.ListN.{length}
 use borrow.Author.Rules.{rules}
+use borrow.Author.Tests.{tests}
+use Rattle.std.specs.Bool.{MatchBool}
+use Rattle.std.specs.List.{AllWithin, HoldsAt}
+use Rattle.std.proofs.lemmas.Iterator.{cases_from_all, YieldsList-from_slice}
+use Rattle.format.specs.Text.{all}
+use Rattle.shapes.specs.Shapes.{shape_in}
+use Rattle.literals.specs.Literals.{atom_but, atoms_but}
 use Rattle.literals.proofs.atoms_but.Goals as goal
 
-module _ (formulas : List ℕ) (p : ℕ) (side : List ℕ) (i : ℕ) where
-  head : i < length side → atoms_but formulas p (drop i side) ≡ (atom_but p (shape_in formulas (get_or side i 0)) && atoms_but formulas p (drop (i + 1) side))
-  unfolding atoms_but
-  head h = rw (add-one, drop-cons side i 0)
+module _ (test : ℕ → Bool) where
+  every : (xs : List ℕ) → AllWithin (λ x. test x ≡ true) xs 0 (length xs) → all test xs ≡ true
+  every [] h = refl
+  every (x ∷ xs) h = ap₂ (λ (t u : Bool). t && u) (h 0 0 (omega arith) (omega arith)) (every xs (λ k d a b. h (suc k) d (omega arith) (omega arith)))
 
-  module _ {r : Bool} {s : Shape} (h : i < length side) (e : r ≡ atom_but p s) (k : s ≡ shape_in formulas (get_or side i 0)) where
-    tested : atoms_but formulas p (drop i side) ≡ (r && atoms_but formulas p (drop (i + 1) side))
-    tested = head h ∙ ap (λ (t : Bool). t && atoms_but formulas p (drop (i + 1) side)) (sym (e ∙ ap (atom_but p) k))
+  not_every : (xs : List ℕ) (k : ℕ) → k < length xs → HoldsAt (λ x. test x ≡ false) xs k → all test xs ≡ false
+  not_every [] k l h = absurd (omega arith)
+  not_every (x ∷ xs) zero l h = ap (λ (t : Bool). t && all test xs) (h 0)
+  not_every (x ∷ xs) (suc k) l h = ap (λ (t : Bool). test x && t) (not_every xs k (omega arith) h) ∙ and-false (test x)
 
-    goes_on_lem : r ≡ true → atoms_but formulas p (drop i side) ≡ atoms_but formulas p (drop (i + 1) side)
-    goes_on_lem t = tested ∙ ap (λ (u : Bool). u && atoms_but formulas p (drop (i + 1) side)) t
-
-    fails : r ≡ false → atoms_but formulas p (drop i side) ≡ false
-    fails t = tested ∙ ap (λ (u : Bool). u && atoms_but formulas p (drop (i + 1) side)) t
-
-  ends : length side ≤ i → atoms_but formulas p (drop i side) ≡ true
-  unfolding atoms_but
-  ends h = ap (atoms_but formulas p) (drop_of_length-le side h)
-
-pub returns-then-not-atom_but : goal.returns-then-not-atom_but
-returns-then-not-atom_but c =
-    sym (c.loop-i.invariant
-    ∙ fails c.args.formulas.now c.args.p c.args.side.now c.loop-i.i (search rules) c.atom_but.ensures
-    c.shape_of-s.ensures.answer c.if-not-atom_but.true)
-
-pub loop-i-preserved : goal.loop-i-preserved
-loop-i-preserved c =
-    c.loop-i.invariant
-    ∙ goes_on_lem c.args.formulas.now c.args.p c.args.side.now c.loop-i.i (search rules) c.atom_but.ensures
-    c.shape_of-s.ensures.answer c.if-not-atom_but.false
+  told :
+      (xs : List ℕ) (r : Bool)
+      → MatchBool r (AllWithin (λ x. test x ≡ true) xs 0 (length xs)) ((k : ℕ) × (k < length xs) × HoldsAt (λ x. test x ≡ false) xs k)
+      → r ≡ all test xs
+  told xs true h = sym (every xs h)
+  told xs false h = sym (not_every xs h.0 h.1 h.2)
 
 pub returns : goal.returns
-returns c = sym (c.loop-i.invariant ∙ ends c.args.formulas.now c.args.p c.args.side.now c.loop-i.i (search rules))
+unfolding atoms_but
+returns c =
+    let formulas = c.args.formulas.now in
+    let p = c.args.p in
+    told (λ x. atom_but p (shape_in formulas x)) c.args.side.now c.all.result
+    (cases_from_all _ _ _ (λ x. atom_but p (shape_in formulas x) ≡ true) (λ x. atom_but p (shape_in formulas x) ≡ false) c.all.ensures.ran
+    (YieldsList-from_slice c.args.side.now cc) (λ x q k. search (rules, tests)) (λ x q k. search (rules, tests)))

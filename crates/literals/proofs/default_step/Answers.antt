@@ -49,8 +49,8 @@ module _ (formulas : List ℕ) (principal : ℕ) (left right : List ℕ) where
 pub returns-then-not-atoms_but : goal.returns-then-not-atoms_but
 returns-then-not-atoms_but c = not_atoms _ _ _ _ c.shape_of-s.ensures.answer c.in-Negated.is c.atoms_but.ensures c.if-not-atoms_but.true
 
-pub returns-in-Negated : goal.returns-in-Negated
-returns-in-Negated c =
+pub returns : goal.returns
+returns c =
     only_atoms _ _ _ _ c.shape_of-s.ensures.answer c.in-Negated.is c.atoms_but.ensures
     c.if-not-atoms_but.false c.contains.ensures
 

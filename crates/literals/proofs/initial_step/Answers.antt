@@ -10,6 +10,12 @@ use Rattle.literals.specs.declared.Literals.{Literals}
 use Rattle.literals.specs.Literals.{Collects, InitialIn, InitialStep}
 use Rattle.literals.proofs.LiteralRules.{initial_instance}
 use Rattle.literals.proofs.initial_step.Goals as goal
+use Rattle.literals.proofs.initial_step.Goals.{
+  then-l-via-then-l,
+  then-l-via-else-l+then-l-2,
+  then-l-via-else-l+else-l-2+then-r,
+  then-l-via-else-l+else-l-2+else-r+then-r-2,
+}
 
 -- two sets of atoms with no member in common
 abbrev Apart : ℕ → ℕ → Type 0
@@ -60,16 +66,13 @@ module _ {formulas left right : List ℕ} {l r : Literals} (cl : Collects formul
   last d = step (decides_iff (passed, asked) d)
 
 pub returns-then-l : goal.returns-then-l
-returns-then-l c = fails c.literals_of-l.ensures c.literals_of-r.ensures (λ i. false≢true (sym i.no_falsum ∙ c.if-l.true))
-
-pub returns-then-l-2 : goal.returns-then-l-2
-returns-then-l-2 c = fails c.literals_of-l.ensures c.literals_of-r.ensures (λ i. false≢true (sym i.left_literals ∙ c.if-l-2.true))
-
-pub returns-then-r : goal.returns-then-r
-returns-then-r c = fails c.literals_of-l.ensures c.literals_of-r.ensures (λ i. false≢true (sym i.no_verum ∙ c.if-r.true))
-
-pub returns-then-r-2 : goal.returns-then-r-2
-returns-then-r-2 c = fails c.literals_of-l.ensures c.literals_of-r.ensures (λ i. false≢true (sym i.right_literals ∙ c.if-r-2.true))
+returns-then-l c =
+    fails c.literals_of-l.ensures c.literals_of-r.ensures (λ i. elim c.then-l.branch [
+      | then-l-via-then-l w ↦ false≢true (sym i.no_falsum ∙ w.if-l.true)
+      | then-l-via-else-l+then-l-2 w ↦ false≢true (sym i.left_literals ∙ w.if-l-2.true)
+      | then-l-via-else-l+else-l-2+then-r w ↦ false≢true (sym i.no_verum ∙ w.if-r.true)
+      | then-l-via-else-l+else-l-2+else-r+then-r-2 w ↦ false≢true (sym i.right_literals ∙ w.if-r-2.true)
+    ])
 
 pub returns-then-not-disjoint : goal.returns-then-not-disjoint
 returns-then-not-disjoint c =

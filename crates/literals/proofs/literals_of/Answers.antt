@@ -51,11 +51,11 @@ module _ {formulas side : List ℕ} {found : Literals} {i : ℕ} where
     other = pass_ends (shaped is_other formulas) side _ i h p.other;
   }
 
-pub loop-i-init : goal.loop-i-init
-loop-i-init c = starts _ _
+pub loop-x-init : goal.loop-x-init
+loop-x-init c = starts _ _
 
-pub loop-i-preserved : goal.loop-i-preserved
-loop-i-preserved c = goes_on_lem (search rules) c.loop-i.invariant c.shape_of-s.ensures.answer c.with_literal-found.ensures
+pub loop-x-preserved : goal.loop-x-preserved
+loop-x-preserved c = goes_on_lem (search rules) c.loop-x.invariant c.shape_of-s.ensures.answer c.with_literal-found.ensures
 
 pub returns : goal.returns
-returns c = ends (search rules) c.loop-i.invariant
+returns c = ends (search rules) c.loop-x.invariant

@@ -1,8 +1,7 @@
 -- `literals::literals_of` meets its contract. The invariant of its loop: the literals so far are those before place i.
-use Prim.Native.Nat.{ℕ, ◌-◌}
+use Prim.Native.Nat.{ℕ}
 use mathlib.Core.Bool.{Bool}
 use mathlib.Core.List.{List}
-use lib.ListN.{length}
 use Rattle.atomset.specs.AtomSet.{has}
 use Rattle.shapes.specs.Shapes.{shape_in}
 use Rattle.literals.specs.Literals.{is_atom, is_negated, is_falsum, is_verum, is_other}
@@ -22,8 +21,5 @@ pub record Collecting (formulas side : List ℕ) (found : Literals) (i : ℕ) : 
   pub verum : Passed (shaped is_verum formulas) side found.verum i
   pub other : Passed (shaped is_other formulas) side found.other i
 
-abbrev pub invariant-loop-i : goal.invariant-loop-i
-invariant-loop-i l = Collecting l.formulas l.side l.found l.i
-
-abbrev pub decreases-loop-i : goal.decreases-loop-i
-decreases-loop-i l = length l.side - l.i
+abbrev pub invariant-loop-x : goal.invariant-loop-x
+invariant-loop-x l = Collecting l.formulas l.side l.found l.x-index

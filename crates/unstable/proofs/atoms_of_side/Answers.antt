@@ -20,18 +20,18 @@ goes_on_lem notes side set more {i} h passed u e k p =
     pass_goes_on (occurs notes p) side (has set p) (has more p) i h (passed p)
     (u p ∙ ap (λ (w : ℕ). has set p || has w p) (e ∙ ap (λ (x : ℕ). get_or notes x 0) k))
 
-pub loop-i-init : goal.loop-i-init
-loop-i-init c =
+pub loop-x-init : goal.loop-x-init
+loop-x-init c =
     λ p.
     subst (λ (t : Bool). Passed (occurs c.args.notes.now p) c.args.side.now t 0) (sym (has_zero p)) (pass_starts _ _)
 
-pub loop-i-preserved : goal.loop-i-preserved
-loop-i-preserved c =
-    goes_on_lem c.args.notes.now c.args.side.now _ _ (search rules) c.loop-i.invariant c.union-set.ensures c.note.ensures
-    c.wide.ensures
+pub loop-x-preserved : goal.loop-x-preserved
+loop-x-preserved c =
+    goes_on_lem c.args.notes.now c.args.side.now _ _ (search rules) c.loop-x.invariant c.union-set.ensures c.note.ensures
+    c.from.ensures
 
 pub returns : goal.returns
 unfolding occurs_on
 returns c =
     λ p.
-    pass_ends (occurs c.args.notes.now p) c.args.side.now _ c.loop-i.i (search rules) (c.loop-i.invariant p)
+    pass_ends (occurs c.args.notes.now p) c.args.side.now _ c.loop-x.x-index (search rules) (c.loop-x.invariant p)

@@ -2,6 +2,7 @@ use Prim.Native.Nat.{ℕ, ◌+◌, ◌≤◌, ◌<◌}
 use native.Mathlib.Numerals.{add-one}
 use mathlib.Core.Bool.{◌&&◌, cond, and-false}
 use mathlib.Core.List.{List}
+use mathlib.Core.Logic.{⊎_elim}
 use mathlib.Core.Path.{◌≡◌, sym, ap, ◌∙◌}
 use borrow.Author.Tests.{eq-eqb, ne_eqb}
 use lib.Dec.{eqb}
@@ -12,7 +13,6 @@ use Rattle.sides.specs.Numbers.{missing}
 use Rattle.schema.specs.Principal.{record_at}
 use Rattle.schema.specs.Additions.{negation_in}
 use Rattle.schema.proofs.additions.negation_on.Goals as goal
-use Rattle.schema.proofs.additions.negation_on.Goals.{then-word-eq2+else-first-a, else-word-eq2}
 
 module _ (formulas side : List ℕ) (a i : ℕ) where
   at_end : length side ≤ i → negation_in formulas (drop i side) a ≡ missing
@@ -34,29 +34,26 @@ module _ (formulas side : List ℕ) (a i : ℕ) where
     other_operand : (n.first ≡ a → ⊥) → negation_in formulas (drop i side) a ≡ negation_in formulas (drop (i + 1) side) a
     other_operand f = head ∙ rw (ne_eqb n.first a f, and-false (eqb n.word 2))
 
-pub returns-then-first-a : goal.returns-then-first-a
-returns-then-first-a c =
+pub returns-then-n-a : goal.returns-then-n-a
+returns-then-n-a c =
     let args = c.args in
     let formulas = args.formulas.now in
-    let read = c.node-n.ensures ∙ ap (record_at formulas) c.wide.ensures in
-    let found = here formulas args.side.now args.a c.loop-i.i c.loop-i-test.true c.node-n.result read in
-    c.number.ensures ∙ sym (c.loop-i.invariant ∙ found c.if-word-eq2.true c.if-first-a.true)
+    let read = c.node-n.ensures ∙ ap (record_at formulas) c.from.ensures in
+    let found = here formulas args.side.now args.a c.loop-x.x-index c.loop-x-test.true c.node-n.result read in
+    c.number.ensures ∙ sym (c.loop-x.invariant ∙ found c.if-n-eq-NOT.true c.if-n-a.true)
 
-pub loop-i-preserved : goal.loop-i-preserved
-loop-i-preserved c =
+pub loop-x-preserved : goal.loop-x-preserved
+loop-x-preserved c =
     let args = c.args in
     let formulas = args.formulas.now in
-    let inside = c.loop-i-test.true in
+    let inside = c.loop-x-test.true in
     let n = c.node-n.result in
-    let read = c.node-n.ensures ∙ ap (record_at formulas) c.wide.ensures in
-    let by-operand = other_operand formulas args.side.now args.a c.loop-i.i inside n read in
-    let by_word_lem = other_word formulas args.side.now args.a c.loop-i.i inside n read in
-    c.loop-i.invariant ∙ elim c.if-word-eq2.branch [
-      | then-word-eq2+else-first-a w ↦ by-operand w.if-first-a.false
-      | else-word-eq2 w ↦ by_word_lem w.if-word-eq2.false
-    ]
+    let read = c.node-n.ensures ∙ ap (record_at formulas) c.from.ensures in
+    let by-operand = other_operand formulas args.side.now args.a c.loop-x.x-index inside n read in
+    let by_word_lem = other_word formulas args.side.now args.a c.loop-x.x-index inside n read in
+    c.loop-x.invariant ∙ ⊎_elim (λ w. by-operand w.1) by_word_lem c.else-n-eq-NOT.either
 
 pub returns : goal.returns
 returns c =
     let args = c.args in
-    sym (c.loop-i.invariant ∙ at_end args.formulas.now args.side.now args.a c.loop-i.i c.loop-i-test.false)
+    sym (c.loop-x.invariant ∙ at_end args.formulas.now args.side.now args.a c.loop-x.x-index c.loop-x-test.false)

@@ -1,40 +1,41 @@
 -- `schema::parts::split` meets its contract, case by case.
+use native.Mathlib.Omega.{arith}
 use mathlib.Core.Path.{◌≡◌, sym, ap, ◌∙◌}
 use Rattle.tables.specs.declared.records.NodeRecord.{NodeRecord}
-use Rattle.schema.specs.Principal.{record_at, fitting}
+use Rattle.schema.specs.Principal.{record_at, fitting, parts_if}
 use Rattle.schema.proofs.Splitting.{other_word, into_itself, into_one, into_two}
 use Rattle.schema.proofs.parts.split.Goals as goal
 
-pub returns-then-found-word : goal.returns-then-found-word
-returns-then-found-word c =
+pub returns-then-n-word : goal.returns-then-n-word
+returns-then-n-word c =
     let args = c.args in
     let formulas = args.formulas.now in
-    let read = c.node-n.ensures ∙ ap (record_at formulas) c.wide.ensures in
-    let other : (record_at formulas args.at).word ≡ args.word → ⊥ = λ e. c.if-found-word.true (ap (λ (n : NodeRecord). n.word) read ∙ e) in
-    c.misfit.ensures ∙ sym (other_word formulas args.whole args.at args.word other)
+    let read = c.node-n.ensures ∙ ap (record_at formulas) c.from.ensures in
+    let other : (record_at formulas args.at).word ≡ args.word → ⊥ = λ e. c.if-n-word.true (ap (λ (n : NodeRecord). n.word) read ∙ e) in
+    ap parts_if (sym (other_word formulas args.whole args.at args.word other))
 
-pub returns-then-word-eq0 : goal.returns-then-word-eq0
-returns-then-word-eq0 c =
+pub returns-in-0 : goal.returns-in-0
+returns-in-0 c =
     let args = c.args in
     let formulas = args.formulas.now in
-    let read = c.node-n.ensures ∙ ap (record_at formulas) c.wide.ensures in
-    let same = sym (ap (λ (n : NodeRecord). n.word) read) ∙ c.if-found-word.false in
-    sym (into_itself formulas args.whole args.at args.word same c.if-word-eq0.true)
+    let read = c.node-n.ensures ∙ ap (record_at formulas) c.from.ensures in
+    let same = sym (ap (λ (n : NodeRecord). n.word) read) ∙ c.if-n-word.false in
+    ap parts_if (sym (into_itself formulas args.whole args.at args.word same c.in-0.is))
 
-pub returns-then-word-eq2 : goal.returns-then-word-eq2
-returns-then-word-eq2 c =
+pub returns-in-2 : goal.returns-in-2
+returns-in-2 c =
     let args = c.args in
     let formulas = args.formulas.now in
-    let read = c.node-n.ensures ∙ ap (record_at formulas) c.wide.ensures in
-    let same = sym (ap (λ (n : NodeRecord). n.word) read) ∙ c.if-found-word.false in
-    ap (λ (n : NodeRecord). fitting args.whole n.first n.first) read
-    ∙ sym (into_one formulas args.whole args.at args.word same c.if-word-eq0.false c.if-word-eq2.true)
+    let read = c.node-n.ensures ∙ ap (record_at formulas) c.from.ensures in
+    let same = sym (ap (λ (n : NodeRecord). n.word) read) ∙ c.if-n-word.false in
+    ap (λ (n : NodeRecord). parts_if (fitting args.whole n.first n.first)) read
+    ∙ ap parts_if (sym (into_one formulas args.whole args.at args.word same (λ e. omega arith) c.in-2.is))
 
-pub returns : goal.returns
-returns c =
+pub returns-in_default : goal.returns-in_default
+returns-in_default c =
     let args = c.args in
     let formulas = args.formulas.now in
-    let read = c.node-n.ensures ∙ ap (record_at formulas) c.wide.ensures in
-    let same = sym (ap (λ (n : NodeRecord). n.word) read) ∙ c.if-found-word.false in
-    ap (λ (n : NodeRecord). fitting args.whole n.first n.second) read
-    ∙ sym (into_two formulas args.whole args.at args.word same c.if-word-eq0.false c.if-word-eq2.false)
+    let read = c.node-n.ensures ∙ ap (record_at formulas) c.from.ensures in
+    let same = sym (ap (λ (n : NodeRecord). n.word) read) ∙ c.if-n-word.false in
+    ap (λ (n : NodeRecord). parts_if (fitting args.whole n.first n.second)) read
+    ∙ ap parts_if (sym (into_two formulas args.whole args.at args.word same (λ e. omega arith) (λ e. omega arith)))

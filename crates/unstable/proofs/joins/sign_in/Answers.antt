@@ -5,4 +5,4 @@ use Rattle.shapes.specs.declared.Shape.{Shape}
 use Rattle.unstable.proofs.joins.sign_in.Goals as goal
 
 pub returns : goal.returns
-returns c = c.sign_of.ensures ∙ ap (λ (s : Shape). sign_of s c.args.p) c.shape_of-s.ensures.answer
+returns c = c.sign_of.ensures ∙ ap (λ (s : Shape). sign_of s c.args.p) c.shape_of.ensures.answer
