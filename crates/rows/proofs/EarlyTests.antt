@@ -18,9 +18,9 @@ use Rattle.format.proofs.Booleans as booleans
 use Rattle.format.proofs.Tested.{passes}
 use Rattle.format.proofs.GoodBodies.{Held, good_held}
 use Rattle.format.proofs.Formulas.{known_earlier}
-use Rattle.text.specs.Numbers.{principal_as}
-use Rattle.text.specs.Lists.{most_counted, above, listed_as}
-use Rattle.text.specs.declared.numbers.Optional.{Optional}
+use Rattle.text.specs.Numbers.{number_as}
+use Rattle.text.specs.Lists.{most_counted, above, listed_of}
+use Rattle.std.specs.Prelude.{Option as Given}
 use Rattle.text.specs.declared.lists.Listed.{Listed}
 use Rattle.counts.specs.Counts.{counts_of, full_for}
 use Rattle.tables.specs.Holding.{Sided}
@@ -32,7 +32,7 @@ use Rattle.drafts.specs.declared.Draft.{Draft}
 use Rattle.drafts.specs.Drafts.{Narrow, Drafted}
 
 -- some number of a list is not earlier exactly if the least number above them all is past
-pub past_listed : (xs : List ℕ) (h : ℕ) → past_of (listed_as (some xs)) h ≡ any (not_earlier h) xs
+pub past_listed : (xs : List ℕ) (h : ℕ) → past_of (listed_of xs) h ≡ any (not_earlier h) xs
 unfolding above
 past_listed [] h = le-ltb h 0 (omega arith)
 past_listed (x ∷ xs) h = by_tests (leb h x) (any (not_earlier h) xs) refl (past_listed xs h)
@@ -51,7 +51,7 @@ ltb_alike most m n above below = by_test (ltb most n) refl
     by_test false e = le-ltb most m (below (ltb-false most n e))
 
 -- a side is bad exactly if what is known of it says so
-pub bad_listed : (xs : List ℕ) → bad_of (listed_as (some xs)) ≡ bad_side xs
+pub bad_listed : (xs : List ℕ) → bad_of (listed_of xs) ≡ bad_side xs
 bad_listed xs =
     ap (λ (t : Bool). not (strictly_rising xs) || t)
     (ltb_alike most_on_side (min (length xs) most_counted) (length xs) (λ (h : most_on_side < length xs). omega arith) (λ (h : length xs ≤ most_on_side). omega arith))
@@ -65,7 +65,7 @@ full_counted c l r = ap₂ (λ (s t : Bool). leb most_rows c.rows || s || t) (ov
         ltb_alike most_entries (held + min n most_counted) (held + n)
         (λ (h : most_entries < held + n). omega arith) (λ (h : held + n ≤ most_entries). omega arith)
 
-ahead_listed : (o : Option ℕ) (h : ℕ) → ahead_of (principal_as (some o)) h ≡ any (not_earlier h) (listed o)
+ahead_listed : (o : Option ℕ) (h : ℕ) → ahead_of (number_as o) h ≡ any (not_earlier h) (listed o)
 ahead_listed none h = refl
 ahead_listed (some i) h = sym (or-false (leb h i))
 
@@ -74,12 +74,12 @@ abbrev draft_of : Row → ℕ → ℕ → ℕ → Draft
 draft_of r rule one two =
     record {
       rule = rule;
-      principal = principal_as (some r.principal);
-      premises = listed_as (some r.premises);
+      principal = number_as r.principal;
+      premises = listed_of r.premises;
       first = one;
       second = two;
-      left = listed_as (some r.left);
-      right = listed_as (some r.right);
+      left = listed_of r.left;
+      right = listed_of r.right;
     }
 
 -- 5, 7 and 9
@@ -89,12 +89,12 @@ tests full unknown bad = (5 when full) ∷ (7 when unknown) ∷ (9 when bad) ∷
 own_tests : (b : Body) (r : Row) (rule one two : ℕ) → early_of (draft_of r rule one two) (counts_of b) ≡ early_tests b r
 unfolding full_for
 own_tests b r rule one two =
-    ap (λ (t : Bool). tests t (references_of (draft_of r rule one two) (counts_of b)) (bad_of (listed_as (some r.left)) || bad_of (listed_as (some r.right))))
+    ap (λ (t : Bool). tests t (references_of (draft_of r rule one two) (counts_of b)) (bad_of (listed_of r.left) || bad_of (listed_of r.right)))
     (full_counted (counts_of b) (length r.left) (length r.right))
     ∙ ap₂ (λ (s t : Bool). tests (full_for (counts_of b) (length r.left) (length r.right)) (references_of (draft_of r rule one two) (counts_of b)) (s || t))
     (bad_listed r.left) (bad_listed r.right)
     ∙ ap (λ (t : Bool). tests (full_for (counts_of b) (length r.left) (length r.right)) t (bad_side r.left || bad_side r.right)) (
-    ap₂ (λ (s t : Bool). s || t || past_of (listed_as (some r.left)) (length b.nodes) || past_of (listed_as (some r.right)) (length b.nodes))
+    ap₂ (λ (s t : Bool). s || t || past_of (listed_of r.left) (length b.nodes) || past_of (listed_of r.right) (length b.nodes))
     (ahead_listed r.principal (length b.nodes)) (past_listed r.premises (length b.rows))
     ∙ ap₂ (λ (s t : Bool). unknown_formula b (listed r.principal) || any (not_earlier (length b.rows)) r.premises || s || t)
     (past_listed r.left (length b.nodes)) (past_listed r.right (length b.nodes)))
@@ -103,13 +103,13 @@ own_tests b r rule one two =
 pub early_same : (b : Body) {r : Row} {d : Draft} {c : Counts} {left right : List ℕ} → c ≡ counts_of b → Drafted r d left right → early_of d c ≡ early_tests b r
 early_same b {r} {d} {c} counts drafted =
     ap (early_of d) counts
-    ∙ ap₂ (λ (o : Optional) (l : Listed). early_of
+    ∙ ap₂ (λ (o : Given ℕ) (l : Listed). early_of
     (record { rule = d.rule; principal = o; premises = l; first = d.first; second = d.second; left = d.left; right = d.right }) (counts_of b))
     drafted.principal drafted.premises
     ∙ ap₂ (λ (l m : Listed). early_of (record {
       rule = d.rule;
-      principal = principal_as (some r.principal);
-      premises = listed_as (some r.premises);
+      principal = number_as r.principal;
+      premises = listed_of r.premises;
       first = d.first;
       second = d.second;
       left = l;

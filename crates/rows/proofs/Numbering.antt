@@ -11,7 +11,7 @@ use lib.ListN.{take}
 use Rattle.equilibrium.specs.Formula.{Formula}
 use Rattle.equilibrium.specs.Meaning.{◌∈◌}
 use Rattle.elk.specs.Sequent.{Sequent}
-use Rattle.elk.specs.Rules.{Entry, schema, default, cut, unstable, initial, exchange}
+use Rattle.elk.specs.Rules.{Entry, schema, default, cut, unstable, initial, exchange, entry}
 use Rattle.elk.specs.Instance.{TooManyAtomsOf}
 use Rattle.format.specs.File.{Row, Body}
 use Rattle.format.specs.Tests.{Test, ◌when◌, first, wrong_premises, too_many_atoms, wrong_step, rule_tests, body_tests}
@@ -19,6 +19,8 @@ use Rattle.format.specs.Passing.{RowInstance, RowTooWide}
 use Rattle.format.proofs.RowPasses.{row_passes_exactly, row_eighteen_exactly, narrow_of}
 use Rattle.counts.specs.declared.Counts.{Counts}
 use Rattle.rules.specs.RuleTable.{step_number}
+use Rattle.sides.specs.Deciding.{Decides}
+use Rattle.sides.proofs.Deciding.{denied}
 use Rattle.early.specs.Early.{early_of, numbered}
 use Rattle.rows.specs.Judgement.{Ground, early_tests, RowNumbered}
 use Rattle.rows.specs.Judging.{Judging, StepNumbered}
@@ -75,6 +77,19 @@ only_swap cut h F premises conclusion w = w
 only_swap unstable h F premises conclusion w = w
 only_swap initial h F premises conclusion w = w
 only_swap exchange h F premises conclusion w = h refl
+
+-- a row of any other rule passes or earns 11
+pub instance_numbered : (b : Body) (r : Row) → wrong_premises b r ≡ false → (step_number (entry r.rule) ≡ 14 → ⊥) → {holds : Bool}
+    → Decides (RowInstance b r) holds → {n : ℕ} → n ≡ cond holds 0 11 → numbered n ≡ first (rule_tests b r)
+instance_numbered b r right-premises other {holds} d e = ap numbered e ∙ by holds d
+  where
+    by : (t : Bool) → Decides (RowInstance b r) t → numbered (cond t 0 11) ≡ first (rule_tests b r)
+    by true d = none_given b r (d.sound refl)
+    by false d = eleven_given b r right-premises (only_swap (entry r.rule) other _ _ _) (denied d refl)
+
+pub instance_among : (holds : Bool) {n : ℕ} → n ≡ cond holds 0 11 → n ∈ 0 ∷ 18 ∷ 11 ∷ []
+instance_among true e = Memᴰ.head e
+instance_among false e = Memᴰ.tail (Memᴰ.tail (Memᴰ.head e))
 
 -- a row of `swap` passes, has too many atoms, or earns 11
 pub swap_given : (b : Body) (r : Row) → wrong_premises b r ≡ false → (n : ℕ) → n ∈ 0 ∷ 18 ∷ 11 ∷ []

@@ -6,6 +6,11 @@ use mathlib.Core.Bool.{Bool, true, false, not, ◌&&◌, ◌||◌, or-true, and-
 use mathlib.Core.List.{List, [], ◌∷◌, ◌++◌, map}
 use mathlib.Core.Option.{Option, none, some}
 use mathlib.Core.Path.{◌≡◌, refl, sym, ap, ap₂, ◌∙◌}
+use borrow.Author.Tests.{eqb-true, eqb-false}
+use lib.Dec.{eqb}
+use mir.Val.{bool_byte}
+use Rattle.std.specs.Prelude.{Option as Given, None, Some}
+use Rattle.std.specs.Option.{is_some}
 use lib.ListN.{length, get_or, length-map, get_or-map}
 use Rattle.elk.specs.Sequent.{Kind, elk, refutation}
 use Rattle.elk.specs.Rules.{Rule, entry, kind_of, has_principal, premise_kinds}
@@ -13,7 +18,7 @@ use Rattle.format.specs.File.{Row, Body, sequent_of}
 use Rattle.format.specs.Tables.{absent, row_at}
 use Rattle.format.specs.Tests.{same_kind, same_kinds, present, same_truth, premises_of, wrong_premises}
 use Rattle.format.proofs.GoodBodies.{in_get_d}
-use Rattle.text.specs.Numbers.{principal_as}
+use Rattle.text.specs.Numbers.{number_as}
 use Rattle.tables.specs.Records.{row_from}
 use Rattle.tables.proofs.Encoded.{rule_held}
 use Rattle.rules.specs.RuleTable.{kind_number, kind_numbers, truth_number, rule_numbers, rule_number}
@@ -21,6 +26,19 @@ use Rattle.rules.proofs.RuleNumbers.{rule_number_lem}
 use Rattle.schema.proofs.SchemaRule.{two_at_most}
 use Rattle.rows.specs.Judging.{named_of, Judging}
 use Rattle.drafts.specs.declared.Draft.{Draft}
+
+-- whether a principal formula was read, as a number
+pub named_by : (p : Given ℕ) {t : Bool} {n : ℕ} → t ≡ is_some p → n ≡ bool_byte t → n ≡ named_of p
+named_by None e f = f ∙ ap bool_byte e
+named_by (Some i) e f = f ∙ ap bool_byte e
+
+-- an answer that is whether two numbers differ
+pub by_number : (x y : ℕ) {w : Bool} → ((x ≡ y → ⊥) → true ≡ w) → (x ≡ y → false ≡ w) → not (eqb x y) ≡ w
+by_number x y {w} differ same = by (eqb x y) refl
+  where
+    by : (t : Bool) → eqb x y ≡ t → not t ≡ w
+    by true e = same (eqb-true x y e)
+    by false e = differ (eqb-false x y e)
 
 -- the kinds of the premises
 abbrev pub kinds_of : Body → Row → List Kind
@@ -128,7 +146,7 @@ module _ {b : Body} {q : Row} {formulas notes rows left_pool right_pool left rig
   pub named_principal : named_of d.principal ≡ truth_number (present q.principal)
   named_principal = ap named_of j.principal ∙ named q.principal
     where
-      named : (p : Option ℕ) → named_of (principal_as (some p)) ≡ truth_number (present p)
+      named : (p : Option ℕ) → named_of (number_as p) ≡ truth_number (present p)
       named none = refl
       named (some i) = refl
 

@@ -20,7 +20,7 @@ use Rattle.format.proofs.Booleans.{or_false, not_false}
 use Rattle.format.proofs.GoodBodies.{in_get_d, HeldRow, good_held}
 use Rattle.format.proofs.Formulas.{known_earlier}
 use Rattle.format.proofs.RowPasses.{ten_exactly}
-use Rattle.text.specs.Numbers.{principal_as}
+use Rattle.text.specs.Numbers.{number_as}
 use Rattle.tables.specs.Records.{on_side}
 use Rattle.tables.specs.Holding.{Sided}
 use Rattle.tables.proofs.Encoded.{side_held}
@@ -152,4 +152,4 @@ module _ {b : Body} {q : Row} {formulas notes rows left_pool right_pool left rig
       let known : i < length b.nodes =
       known_earlier b (i ∷ []) (ap (λ (p : Option ℕ). unknown_formula b (listed p)) (sym e) ∙ j.principal_known) i (Memᴰ.head refl) in
       let small : i % 65536 ≡ i = omega (arith, (good_held j.formulas_held.good).few_nodes) in
-      (ap principal_number (j.principal ∙ ap (λ (p : Option ℕ). principal_as (some p)) e) ∙ small, known)
+      (ap principal_number (j.principal ∙ ap (λ (p : Option ℕ). number_as p) e) ∙ small, known)

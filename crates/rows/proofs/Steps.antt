@@ -1,5 +1,5 @@
 -- What each rule's test on sides says of the row: it decides whether the row is an instance of its rule, or it is the row's number.
-use Prim.Native.Nat.{ℕ, zero, suc, ◌<◌}
+use Prim.Native.Nat.{ℕ, zero, suc, ◌≤◌, ◌<◌}
 use native.Mathlib.Omega.{arith}
 use mathlib.Core.Bool.{Bool, true, false, ◌||◌}
 use mathlib.Core.List.{List, [], ◌∷◌, map}
@@ -50,7 +50,7 @@ use Rattle.schema.specs.SchemaRows.{Sides, ◌⊣◌, Handed, SidesRise, sequent
 use Rattle.unstable.specs.Unstable.{UnstableStep}
 use Rattle.swap.specs.Swap as swap
 use Rattle.schema.proofs.SchemaRule.{two_at_most}
-use Rattle.rows.specs.Judging.{Judging, Premised}
+use Rattle.rows.specs.Judging.{Judging}
 use Rattle.drafts.specs.declared.Draft.{Draft}
 use Rattle.early.specs.Early.{numbered}
 use Rattle.rows.proofs.Numbering.{swap_given}
@@ -100,14 +100,6 @@ is_initial unstable h = absurd (omega arith)
 is_initial initial h = refl
 is_initial exchange h = absurd (omega arith)
 
-pub is_premised : (e : Entry) → (step_number e ≡ 10 → ⊥) → (step_number e ≡ 13 → ⊥) → (step_number e ≡ 14 → ⊥) → Premised e
-is_premised (schema t) h k l = tt
-is_premised default h k l = absurd (h refl)
-is_premised cut h k l = tt
-is_premised unstable h k l = tt
-is_premised initial h k l = absurd (k refl)
-is_premised exchange h k l = absurd (l refl)
-
 pub is_cut : (e : Entry) → step_number e ≡ 11 → e ≡ cut
 is_cut (schema t) h = absurd (omega (arith, form_below t.form))
 is_cut default h = absurd (omega arith)
@@ -124,13 +116,13 @@ is_unstable unstable h = refl
 is_unstable initial h = absurd (omega arith)
 is_unstable exchange h = absurd (omega arith)
 
-pub is_schema : (e : Entry) → Premised e → (step_number e ≡ 11 → ⊥) → (step_number e ≡ 12 → ⊥) → (t : Schema) × (e ≡ schema t)
-is_schema (schema t) p h k = (t, refl)
-is_schema default p h k = absurd p
-is_schema cut p h k = absurd (h refl)
-is_schema unstable p h k = absurd (k refl)
-is_schema initial p h k = absurd p
-is_schema exchange p h k = absurd p
+pub is_schema : (e : Entry) → (10 ≤ step_number e → 14 < step_number e) → (t : Schema) × (e ≡ schema t)
+is_schema (schema t) h = (t, refl)
+is_schema default h = absurd (omega arith)
+is_schema cut h = absurd (omega arith)
+is_schema unstable h = absurd (omega arith)
+is_schema initial h = absurd (omega arith)
+is_schema exchange h = absurd (omega arith)
 
 pub is_exchange : (e : Entry) → step_number e ≡ 14 → e ≡ exchange
 is_exchange (schema t) h = absurd (omega (arith, form_below t.form))

@@ -1,14 +1,12 @@
 -- A row that passed the numbers before its rule, with the sides that it is judged by.
-use Rattle.std.specs.Prelude.{ℕ, ◌<◌, min, ◌≡◌, false, List, [], ◌∷◌, length, get_or}
-use Rattle.std.proofs.Math.Option.{some}
+use Rattle.std.specs.Prelude.{ℕ, ◌<◌, min, ◌≡◌, false, List, [], ◌∷◌, length, get_or, Option, None, Some}
 use Rattle.equilibrium.specs.Meaning.{◌∈◌}
-use Rattle.elk.specs.Rules.{code_of, Entry, schema, default, cut, unstable, initial, exchange}
+use Rattle.elk.specs.Rules.{code_of}
 use Rattle.format.specs.File.{Row, Body}
 use Rattle.format.specs.Tables.{absent}
 use Rattle.format.specs.Tests.{first, unknown_formula, listed, wrong_premises, rule_tests}
-use Rattle.text.specs.Numbers.{principal_as}
+use Rattle.text.specs.Numbers.{number_as}
 use Rattle.text.specs.Lists.{most_counted}
-use Rattle.text.specs.declared.numbers.Optional.{Optional}
 use Rattle.tables.specs.Holding.{HoldsRows, Formulas, Sided}
 use Rattle.known.specs.Known.{AtomNotes}
 use Rattle.drafts.specs.declared.Draft.{Draft}
@@ -19,7 +17,7 @@ pub record Judging (b : Body) (q : Row) (formulas notes rows left_pool right_poo
   pub atoms_known : AtomNotes b notes
   pub rows_held : HoldsRows b.rows rows left_pool right_pool
   pub rule : code_of q.rule ≡ d.rule
-  pub principal : d.principal ≡ principal_as (some q.principal)
+  pub principal : d.principal ≡ number_as q.principal
   pub count : min (length q.premises) most_counted ≡ d.premises.count
   pub first_premise : get_or q.premises 0 absent ≡ d.first
   pub second_premise : get_or q.premises 1 absent ≡ d.second
@@ -31,19 +29,9 @@ pub record Judging (b : Body) (q : Row) (formulas notes rows left_pool right_poo
   pub right_sided : Sided b right
 
 -- 1 where there is a principal formula, and 0 where there is none
-abbrev pub named_of : Optional → ℕ
-named_of Optional.Absent = 0
-named_of (Optional.Value i) = 1
-named_of Optional.Bad = 0
-
--- the rules that have premises, but for `swap`, and `same`, which is of the table
-abbrev pub Premised : Entry → Type 0
-Premised (schema t) = Unit {0}
-Premised default = ⊥
-Premised cut = Unit {0}
-Premised unstable = Unit {0}
-Premised initial = ⊥
-Premised exchange = ⊥
+abbrev pub named_of : Option ℕ → ℕ
+named_of None = 0
+named_of (Some i) = 1
 
 -- The number of a row that passed those before its rule, and 10.
 pub record StepNumbered (formulas notes rows left_pool right_pool : List ℕ) (d : Draft) (left right : List ℕ) (number : ℕ) : Type 0 where

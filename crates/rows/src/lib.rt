@@ -2,51 +2,41 @@
 // premises (10), and whether it is an instance of its rule (18, 11). Nothing is stored, and what stands after the body does not matter.
 #![tactic(auto)]
 
+pub mod body;
 pub mod last;
 mod premises;
 mod step;
 
+ghost use Rattle.refusals.specs.Refusals.{outcome};
 ghost use Rattle.rows.specs.Judgement.{RowNumbered};
 
+use body::Body;
 use counts::Counts;
 use drafts::Draft;
 use early::early_number;
 use premises::wrong_premises;
+use refusals::Refusal;
+use sides::sequents::Sequent;
 use step::step_number;
 use tables::records::front;
 
-// The number of a row as it was read, with the tables that its sides were read into: the first that applies, 0 if none does.
-pub fn row_number<'a>(
+// What a row comes to as it was read, with the tables that its sides were read into: the first refusal that applies.
+pub fn row_number(
     draft: Draft,
-    antecedent: &[u16],
-    succedent: &[u16],
-    formulas: &[u16],
-    notes: &[u64],
-    rows: &[u16],
-    left: &'a [u16],
-    right: &'a [u16],
+    read: Sequent<'_>,
+    body: Body<'_>,
     counts: Counts,
-) -> u32
-    ensures { RowNumbered draft counts antecedent.now succedent.now formulas.now
-        notes.now rows.now left.now right.now result }
+) -> Result<(), Refusal>
+    ensures { RowNumbered draft counts read.entry.left.now read.entry.right.now body.entry.formulas.now
+        body.entry.notes.now body.entry.rows.now body.entry.left.now body.entry.right.now (outcome result) }
 {
-    let early = early_number(draft, counts);
-    if early != 0 {
-        return early;
+    early_number(draft, counts)?;
+    if wrong_premises(body.rows, draft) {
+        return Err(Refusal::WrongPremises);
     }
-    if wrong_premises(rows, draft) {
-        return 10;
-    }
-    let l = draft.left;
-    let r = draft.right;
-    step_number(
-        formulas,
-        notes,
-        rows,
-        left,
-        right,
-        draft,
-        front(antecedent, l.count),
-        front(succedent, r.count),
-    )
+    let row = Sequent {
+        left: front(read.left, draft.left.count),
+        right: front(read.right, draft.right.count),
+    };
+    step_number(body, draft, row)
 }

@@ -12,4 +12,4 @@ returns c =
     let args = c.args in
     c.rule_number.ensures
     ∙ ap (λ (r : RowRecord). rule_number r.rule 1) c.row-record.ensures
-    ∙ ap (λ (i : ℕ). rule_number (row_from (row_at args.rows.now i)).rule 1) c.wide.ensures
+    ∙ ap (λ (i : ℕ). rule_number (row_from (row_at args.rows.now i)).rule 1) c.from.ensures
