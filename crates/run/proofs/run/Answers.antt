@@ -1,6 +1,5 @@
 -- `run::run` meets its contract: each return is one of the laws of `Reached`.
-use native.Mathlib.Omega.{arith}
-use Rattle.run.proofs.Running.{up_to, reached_start, reached_next, run_unread, run_out, run_refused}
+use Rattle.run.proofs.Running.{reached_start, reached_next, run_unread, run_out, run_refused}
 use Rattle.run.proofs.run.Goals as goal
 
 pub returns-then-text-gt-MOST_BYTES : goal.returns-then-text-gt-MOST_BYTES
