@@ -121,19 +121,21 @@ module _ (text : Bytes) (lent : Lent) where
       holds = let stored = accepts.stored in λ i. five (stored.names i) (stored.formulas i) (stored.rows i) (stored.left i) (stored.right i)
 
 -- the tables after the end of a text: as the run left them, and cleared where it is refused
-left_by : Result Accepted Refused → Contents → Contents
+abbrev pub left_by : Result Accepted Refused → Contents → Contents
 left_by (Ok a) t = t
 left_by (Err e) t = clear (lengths t)
 
-left_kept : (end : Result Accepted Refused) (t : Contents) → is_err end ≡ false → left_by end t ≡ t
-unfolding left_by
-left_kept (Ok a) t e = refl
-left_kept (Err x) t e = cc
+-- a promise of these tables and of what the end gives, by whether it is a refusal
+module _ (P : Contents → Judged → Type 0) {t : Contents} {judged : Judged} where
+  pub promised_kept : (end : Result Accepted Refused) (u : Contents) → P (left_by end u) (judged_by end) → judged ≡ judged_by end
+      → is_err end ≡ false → t ≡ u → P t judged
+  promised_kept (Ok a) u p given passed same = subst (P t) (sym given) (subst (λ (v : Contents). P v (judged_by (Ok a))) (sym same) p)
+  promised_kept (Err e) u p given passed same = cc
 
-left_clear : (end : Result Accepted Refused) (t : Contents) → is_err end ≡ true → left_by end t ≡ clear (lengths t)
-unfolding left_by
-left_clear (Ok a) t e = cc
-left_clear (Err x) t e = refl
+  pub promised_clear : (end : Result Accepted Refused) (u : Contents) → P (left_by end u) (judged_by end) → judged ≡ judged_by end
+      → is_err end ≡ true → t ≡ clear (lengths u) → P t judged
+  promised_clear (Ok a) u p given failed same = cc
+  promised_clear (Err e) u p given failed same = subst (P t) (sym given) (subst (λ (v : Contents). P v (judged_by (Err e))) (sym same) p)
 
 -- the run over a text in fresh tables, and what it ends with
 module _ {text : Bytes} {ran : Result Ran Stopped} {before after : Memory} (enough : too_short (lengths (five_of before)) ≡ false)
@@ -152,11 +154,11 @@ module _ {text : Bytes} {ran : Result Ran Stopped} {before after : Memory} (enou
   Judging end = JudgesFile text (lengths (five_of before)) (left_by end (five_of after)) (judged_by end)
 
   turned : (e : Refused) → judged lent text ≡ turned_down (number_of e.refusal) e.line → Judging (Err e)
-  unfolding lent left_by
+  unfolding lent
   turned e is = judges_cleared text lent e is (ap clear same)
 
   ended : (end : Result Accepted Refused) → judged lent text ≡ answer_from top text no_file → Ends text after end → Judging end
-  unfolding lent left_by
+  unfolding lent
   ended (Ok a) read accepts = judges_accepted text lent read same accepts
   ended (Err e) read refuses = turned e (read ∙ refuses)
 
@@ -176,14 +178,11 @@ module _ {text : Bytes} {ran : Result Ran Stopped} {before after : Memory} (enou
 
   -- where the text is refused the tables have been cleared, and else they are as the run left them
   module _ {end : Result Accepted Refused} {t : Contents} {judged : Judged} (made : end ≡ finished (length text) ran) (given : judged ≡ judged_by end) where
-    by_tables : left_by end (five_of after) ≡ t → JudgesFile text (lengths (five_of before)) t judged
-    by_tables e = subst (JudgesFile text (lengths (five_of before)) t) (sym given) (subst (λ (u : Contents). JudgesFile text (lengths (five_of before)) u (judged_by end)) e (judges_end end made))
-
     pub judges_kept : is_err end ≡ false → t ≡ five_of after → JudgesFile text (lengths (five_of before)) t judged
-    judges_kept passed e = by_tables (left_kept end (five_of after) passed ∙ sym e)
+    judges_kept = promised_kept (JudgesFile text (lengths (five_of before))) end (five_of after) (judges_end end made) given
 
     pub judges_again_clear : is_err end ≡ true → t ≡ clear (lengths (five_of after)) → JudgesFile text (lengths (five_of before)) t judged
-    judges_again_clear failed e = by_tables (left_clear end (five_of after) failed ∙ sym e)
+    judges_again_clear = promised_clear (JudgesFile text (lengths (five_of before))) end (five_of after) (judges_end end made) given
 
 -- the same promise by equal lengths
 pub judges_same : {text : Bytes} {lent lent' : Lent} {t : Contents} {r : Judged} → lent ≡ lent' → JudgesFile text lent t r → JudgesFile text lent' t r
