@@ -10,7 +10,7 @@ ghost use Rattle.cut.specs.Cut.{CutSides};
 use sides::covering::{covered, covered_by_either};
 use sides::fitting::fit;
 use sides::members::contains;
-use sides::numbers::{NO_NUMBER, Numbers, number};
+use sides::numbers::{NO_NUMBER, Numbers};
 use sides::sequents::Sequent;
 
 // Whether every number of a side other than p is in `whole`.
@@ -18,7 +18,7 @@ fn covered_but(side: &[u16], p: u16, whole: &[u16]) -> bool
     ensures { DecidesIf (AllRise (side.now ∷ whole.now ∷ []))
         ((z : ℕ) → z ∈ side.now → (z ≡ p → ⊥) → z ∈ whole.now) result }
 {
-    covered(side, number(p), NO_NUMBER, whole)
+    covered(side, u32::from(p), NO_NUMBER, whole)
 }
 
 // Whether every number of a side is in `whole`.
@@ -44,7 +44,7 @@ pub fn cut_step(principal: u16, row: Sequent<'_>, one: Sequent<'_>, two: Sequent
         return false;
     }
     let cut = Numbers {
-        x: number(principal),
+        x: u32::from(principal),
         y: NO_NUMBER,
     };
     if !fit(row.left, none, two.left, cut) {

@@ -5,7 +5,7 @@ ghost use Rattle.schema.specs.Additions.{negation_in, part_in, added_in};
 
 use crate::parts::Parts;
 use rules::{PARTS, rule_number};
-use sides::numbers::{MISSING, NO_NUMBER, Numbers, number};
+use sides::numbers::{MISSING, NO_NUMBER, Numbers};
 use tables::records::{NOT, node};
 
 // The number of `~A` on a side, where `a` is the number of A.
@@ -15,7 +15,7 @@ fn negation_on(formulas: &[u16], side: &[u16], a: u16) -> u32
     for &x in side {
         let n = node(formulas, usize::from(x));
         if n.word == NOT && n.first == a {
-            return number(x);
+            return u32::from(x);
         }
     }
     MISSING
@@ -27,9 +27,9 @@ fn part_on(formulas: &[u16], side: &[u16], p: Parts, part: u8) -> u32
 {
     match part {
         0 => NO_NUMBER,
-        1 => number(p.whole),
-        2 => number(p.first),
-        3 => number(p.second),
+        1 => u32::from(p.whole),
+        2 => u32::from(p.first),
+        3 => u32::from(p.second),
         4 => negation_on(formulas, side, p.first),
         _ => negation_on(formulas, side, p.second),
     }

@@ -7,7 +7,6 @@ ghost use Rattle.sides.specs.Members.{AllRise};
 
 use crate::members::stands;
 use crate::merging::same_blocks;
-use crate::numbers::number;
 
 // Whether every number of `a` other than x and y is in `b`. A number from 65,536 on is in no list: it stands for none.
 pub fn covered(a: &[u16], x: u32, y: u32, b: &[u16]) -> bool
@@ -16,19 +15,15 @@ pub fn covered(a: &[u16], x: u32, y: u32, b: &[u16]) -> bool
     let mut i = same_blocks(a, 0, b, 0);
     let mut j = i;
     while i < a.len() {
-        let z = number(a[i]);
-        if z == x {
-            i += 1;
-            continue;
-        }
-        if z == y {
+        let z = u32::from(a[i]);
+        if z == x || z == y {
             i += 1;
             continue;
         }
         if j >= b.len() {
             return false;
         }
-        let w = number(b[j]);
+        let w = u32::from(b[j]);
         if w > z {
             return false;
         }
@@ -50,10 +45,7 @@ fn skipped(side: &[u16], at: usize, x: u16) -> usize
     ensures { Skips side.now at x result }
 {
     let mut i = at;
-    while i < side.len() {
-        if side[i] >= x {
-            return i;
-        }
+    while i < side.len() && side[i] < x {
         i += 1;
     }
     i
@@ -93,14 +85,11 @@ pub fn first_outside(a: &[u16], b: &[u16]) -> usize
     ensures { FirstOutside a.now b.now result }
 {
     let mut j = 0;
-    let mut i = 0;
-    while i < a.len() {
-        let x = a[i];
+    for (i, &x) in a.iter().enumerate() {
         j = skipped(b, j, x);
         if !stands(b, j, x) {
             return i;
         }
-        i += 1;
     }
-    i
+    a.len()
 }

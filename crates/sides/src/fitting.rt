@@ -15,13 +15,10 @@ use crate::numbers::{NO_NUMBER, Numbers};
 fn on(side: &[u16], x: u32) -> bool
     ensures { Decides ((x ≡ no_number → ⊥) → x ∈ side.now) result }
 {
-    if x == NO_NUMBER {
-        return true;
+    match u16::try_from(x) {
+        Ok(z) => contains(side, z),
+        Err(_) => x == NO_NUMBER,
     }
-    if x > NO_NUMBER {
-        return false;
-    }
-    contains(side, x as u16)
 }
 
 // Whether what is added is on the side.
@@ -52,20 +49,14 @@ pub fn fit(a: &[u16], at_a: Numbers, b: &[u16], at_b: Numbers) -> bool
 fn on_both(x: u32, b: &[u16], at_b: Numbers, c: &[u16], at_c: Numbers) -> bool
     ensures { Decides (OnBoth x b.now at_b c.now at_c) result }
 {
-    if x >= NO_NUMBER {
+    let Ok(z) = u16::try_from(x) else {
         return true;
+    };
+    match (contains(b, z), contains(c, z)) {
+        (true, false) => is_added(at_b, z),
+        (false, true) => is_added(at_c, z),
+        _ => true,
     }
-    let z = x as u16;
-    if contains(b, z) {
-        if contains(c, z) {
-            return true;
-        }
-        return is_added(at_b, z);
-    }
-    if contains(c, z) {
-        return is_added(at_c, z);
-    }
-    true
 }
 
 // Whether some set gives all three sides, each with what is added to it. Two that each fit the first differ, if at all, in what is added

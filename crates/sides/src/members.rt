@@ -17,28 +17,14 @@ fn block_has(side: &[u16], at: usize, x: u16) -> bool
     found
 }
 
-// Whether the number is on the side at `from` or later, with one look at each.
-fn contains_near(side: &[u16], from: usize, x: u16) -> bool
-    ensures { result ≡ member x (drop from side.now) }
-{
-    let mut i = from;
-    while i < side.len() {
-        if side[i] == x {
-            return true;
-        }
-        i += 1;
-    }
-    false
-}
-
-// Whether the number is on the side.
+// Whether the number is on the side. The library's `contains` alone takes longer: it looks at one number after another.
 pub fn contains(side: &[u16], x: u16) -> bool
     ensures { result ≡ member x side.now }
 {
     let mut i = 0;
     while i < side.len() {
         if side.len() - i < 8 {
-            return contains_near(side, i, x);
+            return side[i..].contains(&x);
         }
         if block_has(side, i, x) {
             return true;
@@ -52,25 +38,12 @@ pub fn contains(side: &[u16], x: u16) -> bool
 pub fn same(a: &[u16], b: &[u16]) -> bool
     ensures { result ≡ same_list a.now b.now }
 {
-    if a.len() != b.len() {
-        return false;
-    }
-    let mut i = 0;
-    while i < a.len() {
-        if a[i] != b[i] {
-            return false;
-        }
-        i += 1;
-    }
-    true
+    a == b
 }
 
 // Whether the number stands at the place.
 pub fn stands(side: &[u16], at: usize, x: u16) -> bool
     ensures { result ≡ (ltb at (length side.now) && eqb (get_or side.now at 0) x) }
 {
-    if at >= side.len() {
-        return false;
-    }
-    side[at] == x
+    at < side.len() && side[at] == x
 }

@@ -5,7 +5,7 @@ ghost use Rattle.sides.specs.Deciding.{Decides, DecidesIf};
 ghost use Rattle.sides.specs.Members.{AllRise};
 ghost use Rattle.sides.specs.Merging.{IsAdded, RestAdded, SameFrom, Agree};
 
-use crate::numbers::{Numbers, number};
+use crate::numbers::Numbers;
 
 // Whether 8 numbers of both are the same, from i and j on. Every one is looked at, so that all can be compared at once.
 fn block_same(a: &[u16], i: usize, b: &[u16], j: usize) -> bool
@@ -45,28 +45,19 @@ pub(crate) fn same_blocks(a: &[u16], i: usize, b: &[u16], j: usize) -> usize
 pub(crate) fn is_added(added: Numbers, z: u16) -> bool
     ensures { Decides (IsAdded added z) result }
 {
-    let n = number(z);
-    if n == added.x {
-        return true;
-    }
-    n == added.y
+    let n = u32::from(z);
+    n == added.x || n == added.y
 }
 
 // Whether all numbers from a place on are added.
 fn rest_added(side: &[u16], at: usize, added: Numbers) -> bool
     ensures { Decides (RestAdded side.now at added) result }
 {
-    let mut i = at;
-    while i < side.len() {
-        if !is_added(added, side[i]) {
-            return false;
-        }
-        i += 1;
-    }
-    true
+    side.iter().skip(at).all(|&z| is_added(added, z))
 }
 
-// Whether each of two sides has what the other has, but for what is added to that one.
+// Whether each of two sides has what the other has, but for what is added to that one. Two cursors: an iterator over each side is no
+// plainer, since whole blocks of both are passed at once.
 pub(crate) fn agree(a: &[u16], at_a: Numbers, b: &[u16], at_b: Numbers) -> bool
     ensures { DecidesIf (AllRise (a.now ∷ b.now ∷ [])) (Agree a.now at_a b.now at_b) result }
 {

@@ -11,7 +11,7 @@ use refusals::Refusal;
 use sides::covering::first_outside;
 use sides::fitting::fit;
 use sides::members::same;
-use sides::numbers::{NO_NUMBER, Numbers, number};
+use sides::numbers::{NO_NUMBER, Numbers};
 use sides::sequents::Sequent;
 
 // What a row by `swap` comes to, for the formula A of this number and one premise: no refusal if it is an instance, too many atoms if
@@ -30,13 +30,13 @@ pub fn swap_number(
         return Err(Refusal::WrongStep);
     }
     let swapped = Numbers {
-        x: number(principal),
+        x: u32::from(principal),
         y: NO_NUMBER,
     };
     let at = first_outside(one.left, row.left);
     if at < one.left.len() {
         let only = Numbers {
-            x: number(one.left[at]),
+            x: u32::from(one.left[at]),
             y: NO_NUMBER,
         };
         if !fit(row.left, swapped, one.left, only) {

@@ -8,7 +8,7 @@ use Rattle.cut.proofs.covered_but.Goals as goal
 
 pub returns : goal.returns
 returns c =
-    let e = c.number.ensures in
+    let e = c.from.ensures in
     let fits : c.args.p < 65536 = omega (arith, c.ranges.p) in
     let s = small c.args.side.now (λ i. omega (arith, c.type_inv.side i)) in
     record {

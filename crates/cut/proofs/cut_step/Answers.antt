@@ -15,7 +15,7 @@ returns-then-not-fit c = no_if (λ (l, (r, (l₁, others))) k. denied_if c.fit.e
 pub returns-then-not-fit-2 : goal.returns-then-not-fit-2
 returns-then-not-fit-2 c =
     let args = c.args in
-    let second = second_fits c.number.ensures (search rules) args.row.left.now args.two.left.now in
+    let second = second_fits c.from.ensures (search rules) args.row.left.now args.two.left.now in
     no_if (λ (l, (r, (l₁, (r₁, (l₂, others))))) k. denied_if c.fit-2.ensures c.if-not-fit-2.true (l, (l₂, tt)) (second.0 k.second_left))
 
 pub returns-then-not-contains : goal.returns-then-not-contains
@@ -33,7 +33,7 @@ pub returns : goal.returns
 returns c =
     let args = c.args in
     let fits : args.principal < 65536 = omega (arith, c.ranges.principal) in
-    let second = second_fits c.number.ensures fits args.row.left.now args.two.left.now in
+    let second = second_fits c.from.ensures fits args.row.left.now args.two.left.now in
     record {
       sound = λ t. record {
         first_left = c.fit.ensures.sound c.if-not-fit.false;

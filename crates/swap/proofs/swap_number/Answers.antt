@@ -40,7 +40,7 @@ returns-then-not-fit c =
     let only = only_one args.principal q (get_or left₁ at 0) left left₁ (in_get_d left₁ at 0 inside)
     (outside.lacks (o.premise_left.rising, (o.row_left.rising, tt)) inside) t in
     denied_if c.fit.ensures (c.if-not-fit.true) (o.row_left.rising, (o.premise_left.rising, tt))
-    ((one_tested args.principal left left₁ c.number.ensures (omega (arith, c.ranges.principal)) c.number-then-at-one.ensures
+    ((one_tested args.principal left left₁ c.from.ensures (omega (arith, c.ranges.principal)) c.from-then-at-one.ensures
     (search rules)).1 (subst (λ (x : ℕ). LeftsMeet args.principal x left left₁) only t)))
 
 pub returns-then-at-one : goal.returns-then-at-one
@@ -53,7 +53,7 @@ returns-then-at-one c =
     let inside : at < length left₁ = c.if-at-one.true in
     let here = in_get_d left₁ at 0 inside in
     let rights = (same_iff _ _).0 (sym c.same.ensures ∙ c.if-not-same.false) in
-    let meets = (one_tested args.principal left left₁ c.number.ensures (omega (arith, c.ranges.principal)) c.number-then-at-one.ensures
+    let meets = (one_tested args.principal left left₁ c.from.ensures (omega (arith, c.ranges.principal)) c.from-then-at-one.ensures
     (search rules)).0 (c.fit.ensures.sound (c.if-not-fit.false)) in
     candidates_given (get_or left₁ at 0 ∷ [])
     (λ b o. (
@@ -74,7 +74,7 @@ returns-then-not-fit-2 c =
     let left₁ = args.one.left.now in
     eleven_given (λ b o q m t e.
     denied_if c.fit-2.ensures (c.if-not-fit-2.true) (o.row_left.rising, (o.premise_left.rising, tt))
-    (none_needed args.principal left left₁ c.number.ensures (omega (arith, c.ranges.principal))
+    (none_needed args.principal left left₁ c.from.ensures (omega (arith, c.ranges.principal))
     (all_within left₁ left _ c.first_outside-at.ensures.found (omega (arith, c.if-at-one.false))) q t))
 
 pub returns : goal.returns
@@ -85,7 +85,7 @@ returns c =
     let rights = (same_iff _ _).0 (sym c.same.ensures ∙ c.if-not-same.false) in
     let shared = c.fit-2.ensures.sound (c.if-not-fit-2.false) in
     let fits : args.principal < 65536 = omega (arith, c.ranges.principal) in
-    let leaves = none_leaves args.principal left left₁ c.number.ensures fits shared in
+    let leaves = none_leaves args.principal left left₁ c.from.ensures fits shared in
     candidates_given left₁
-    (λ b o. (λ z m. m, o.few, none_tested args.principal left left₁ c.number.ensures fits shared, λ q m t. m))
+    (λ b o. (λ z m. m, o.few, none_tested args.principal left left₁ c.from.ensures fits shared, λ q m t. m))
     rights (record { rights = rights; principal = leaves.0; others = leaves.1 }) c.candidates_number-2.ensures

@@ -40,7 +40,7 @@ returns-then-n-a c =
     let formulas = args.formulas.now in
     let read = c.node-n.ensures ∙ ap (record_at formulas) c.from.ensures in
     let found = here formulas args.side.now args.a c.loop-x.x-index c.loop-x-test.true c.node-n.result read in
-    c.number.ensures ∙ sym (c.loop-x.invariant ∙ found c.if-n-eq-NOT.true c.if-n-a.true)
+    c.from-then-n-a.ensures ∙ sym (c.loop-x.invariant ∙ found c.if-n-eq-NOT.true c.if-n-a.true)
 
 pub loop-x-preserved : goal.loop-x-preserved
 loop-x-preserved c =

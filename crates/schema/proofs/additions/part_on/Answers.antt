@@ -28,19 +28,19 @@ pub returns-in-1 : goal.returns-in-1
 unfolding part_in
 returns-in-1 c =
     let args = c.args in
-    c.number.ensures ∙ sym (ap (part_in args.formulas.now args.side.now (apart args.p)) c.in-1.is)
+    c.from.ensures ∙ sym (ap (part_in args.formulas.now args.side.now (apart args.p)) c.in-1.is)
 
 pub returns-in-2 : goal.returns-in-2
 unfolding part_in
 returns-in-2 c =
     let args = c.args in
-    c.number-in-2.ensures ∙ sym (ap (part_in args.formulas.now args.side.now (apart args.p)) c.in-2.is)
+    c.from-in-2.ensures ∙ sym (ap (part_in args.formulas.now args.side.now (apart args.p)) c.in-2.is)
 
 pub returns-in-3 : goal.returns-in-3
 unfolding part_in
 returns-in-3 c =
     let args = c.args in
-    c.number-in-3.ensures ∙ sym (ap (part_in args.formulas.now args.side.now (apart args.p)) c.in-3.is)
+    c.from-in-3.ensures ∙ sym (ap (part_in args.formulas.now args.side.now (apart args.p)) c.in-3.is)
 
 pub returns-in-4 : goal.returns-in-4
 unfolding part_in

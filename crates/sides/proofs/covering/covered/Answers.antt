@@ -4,6 +4,7 @@ use native.Mathlib.Numerals.{add-one}
 use native.Mathlib.Omega.{arith}
 use mathlib.Core.Bool.{Bool, true, false, ◌&&◌, ◌||◌, or-true, false≢true}
 use mathlib.Core.List.{List, [], ◌∷◌}
+use mathlib.Core.Logic.{⊎_elim}
 use mathlib.Core.Path.{◌≡◌, refl, sym, ap, subst, ◌∙◌}
 use borrow.Author.Count.{below_none, below_more}
 use borrow.Author.Rules.{rules}
@@ -115,21 +116,20 @@ pub loop-i-init : goal.loop-i-init
 loop-i-init c = from_start (pass_same _ (record { settled = refl; below = λ ra rb l. below_none _ }) c.same_blocks-i.ensures)
 
 pub loop-i-preserved-then-z-x : goal.loop-i-preserved-then-z-x
-loop-i-preserved-then-z-x c = pass_a c.loop-i.invariant (search rules) (is_x _ _ _ _ (sym c.number-z.ensures ∙ c.if-z-x.true))
-
-pub loop-i-preserved-then-z-y : goal.loop-i-preserved-then-z-y
-loop-i-preserved-then-z-y c = pass_a c.loop-i.invariant (search rules) (is_y _ _ _ _ (sym c.number-z.ensures ∙ c.if-z-y.true))
+loop-i-preserved-then-z-x c =
+    let z = sym c.from-z.ensures in
+    pass_a c.loop-i.invariant (search rules) (⊎_elim (λ e. is_x _ _ _ _ (z ∙ e)) (λ e. is_y _ _ _ _ (z ∙ e.1)) c.then-z-x.either)
 
 pub returns-then-j-b : goal.returns-then-j-b
 returns-then-j-b c =
-    let z = c.number-z.ensures in
+    let z = c.from-z.ensures in
     let at = c.loop-i in
     missed at.invariant (search rules) (λ e. c.if-z-x.false (z ∙ e)) (λ e. c.if-z-y.false (z ∙ e))
     (λ ra rb k l e. omega (arith, at.invariant.below ra rb (search rules) k (omega arith)))
 
 pub returns-then-w-z : goal.returns-then-w-z
 returns-then-w-z c =
-    let z = c.number-z.ensures in
+    let z = c.from-z.ensures in
     let at = c.loop-i in
     missed at.invariant (search rules) (λ e. c.if-z-x.false (z ∙ e)) (λ e. c.if-z-y.false (z ∙ e)) (above at.invariant (search rules) (omega arith))
 

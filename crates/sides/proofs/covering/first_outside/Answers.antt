@@ -1,5 +1,6 @@
 use Prim.Native.Nat.{◌<◌}
 use native.Mathlib.Omega.{arith}
+use mathlib.Core.Path.{◌≡◌}
 use borrow.Author.Rules.{rules}
 use lib.ListN.{length}
 use Rattle.sides.proofs.Either.{next_passed, not_there, found_more, on_side, not_at}
@@ -32,4 +33,5 @@ loop-i-preserved c =
 pub returns : goal.returns
 returns c =
     let at = c.loop-i in
-    record { within = at.invariant.0; found = at.invariant.1; lacks = λ rise l. absurd (omega (arith, l, c.loop-i-test.false)) }
+    let all : at.i ≡ length c.args.a.now = omega arith in
+    record { within = omega arith; found = λ k h. at.invariant.1 k (omega arith); lacks = λ rise l. absurd (omega (arith, l)) }

@@ -3,7 +3,6 @@ use native.Mathlib.Decide.{dec_lt}
 use native.Mathlib.Omega.{arith}
 use mathlib.Core.List.{List}
 use mathlib.Core.Path.{◌≡◌, ap}
-use borrow.Author.Rules.{rules}
 use lib.ListN.{get_or}
 use Rattle.sides.proofs.covering.skipped.Goals as goal
 use Rattle.sides.proofs.covering.skipped.Invariants.{Below}
@@ -18,13 +17,13 @@ one_more side at x i h l k a b = by (dec_lt k i)
 pub loop-i-init : goal.loop-i-init
 loop-i-init c k a b = absurd (omega arith)
 
-pub returns-then-side-i : goal.returns-then-side-i
-returns-then-side-i c = record { below = c.loop-i.invariant; stops = λ h. search rules }
-
 pub loop-i-preserved : goal.loop-i-preserved
 loop-i-preserved c =
     let args = c.args in
     one_more args.side.now args.at args.x c.loop-i.i c.loop-i.invariant (omega arith)
 
-pub returns : goal.returns
-returns c = record { below = c.loop-i.invariant; stops = λ h. absurd (omega arith) }
+pub returns-else-side-i : goal.returns-else-side-i
+returns-else-side-i c = record { below = c.loop-i.invariant; stops = λ h. omega arith }
+
+pub returns-after-loop-i : goal.returns-after-loop-i
+returns-after-loop-i c = record { below = c.loop-i.invariant; stops = λ h. absurd (omega arith) }

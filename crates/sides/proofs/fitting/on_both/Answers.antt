@@ -2,7 +2,7 @@
 use native.Mathlib.Omega.{arith}
 use mathlib.Core.Bool.{Bool, true, false, false≢true}
 use mathlib.Core.Logic.{inl, inr, ⊎_elim}
-use mathlib.Core.Path.{◌≡◌, sym, ◌∙◌}
+use mathlib.Core.Path.{◌≡◌, refl, sym, subst, ◌∙◌}
 use Prim.Native.Nat.{ℕ}
 use mathlib.Core.List.{List}
 use Rattle.equilibrium.specs.Meaning.{◌∈◌}
@@ -29,37 +29,46 @@ module _ {x : ℕ} {b c : List ℕ} {q r : Numbers} where
     complete = λ h. d.complete (⊎_elim (λ a. a) (λ k. absurd (n k)) (h.0 m));
   }
 
+  both_same : (t : Bool) → t ≡ member x b → t ≡ member x c → Decides (OnBoth x b q c r) true
+  both_same true e f = decides_yes (λ k. inr (found f refl), λ k. inr (found e refl))
+  both_same false e f = decides_yes (λ k. absurd (missing e refl k), λ k. absurd (missing f refl k))
+
   second_alone : (x ∈ b → ⊥) → x ∈ c → {t : Bool} → Decides (IsAdded r x) t → Decides (OnBoth x b q c r) t
   second_alone n m d = record {
     sound = λ e. (λ k. absurd (n k), λ k. inl (d.sound e));
     complete = λ h. d.complete (⊎_elim (λ a. a) (λ k. absurd (n k)) (h.1 m));
   }
 
-pub returns-then-x-ge-NO_NUMBER : goal.returns-then-x-ge-NO_NUMBER
-returns-then-x-ge-NO_NUMBER c =
+module _ (b : List ℕ) (q : Numbers) (c : List ℕ) (r : Numbers) {z x : ℕ} (e : z ≡ x) {t : Bool} where
+  -- the number as one of 16 bits
+  narrowed : Decides (OnBoth z b q c r) t → Decides (OnBoth x b q c r) t
+  narrowed d = subst (λ (y : ℕ). Decides (OnBoth y b q c r) t) e d
+
+pub returns-in-true-false : goal.returns-in-true-false
+returns-in-true-false c =
+    let args = c.args in
+    narrowed args.b.now args.at_b args.c.now args.at_c c.in-Ok.ensures.1
+    (first_alone (found c.in-true-false.ensures refl) (missing c.in-true-false.ensures' refl) c.is_added.ensures)
+
+pub returns-in-false-true : goal.returns-in-false-true
+returns-in-false-true c =
+    let args = c.args in
+    narrowed args.b.now args.at_b args.c.now args.at_c c.in-Ok.ensures.1
+    (second_alone (missing c.in-false-true.ensures refl) (found c.in-false-true.ensures' refl) c.is_added-in-false-true.ensures)
+
+pub returns-in_default : goal.returns-in_default
+returns-in_default c =
     let args = c.args in
     let b-small = small args.b.now (λ i. omega (arith, c.type_inv.b i)) in
     let c-small = small args.c.now (λ i. omega (arith, c.type_inv.c i)) in
-    decides_yes (past_both args.b.now args.at_b args.c.now args.at_c b-small c-small args.x (omega arith))
+    decides_yes (past_both args.b.now args.at_b args.c.now args.at_c b-small c-small args.x (omega (arith, c.in_default.ensures)))
 
-pub returns-then-contains-2 : goal.returns-then-contains-2
-returns-then-contains-2 c =
-    let on-b = found c.contains.ensures c.if-contains.true in
-    let on-c = found c.contains-then-contains.ensures c.if-contains-2.true in
-    decides_yes (λ k. inr on-c, λ k. inr on-b)
+pub returns-in_default-2 : goal.returns-in_default-2
+returns-in_default-2 c =
+    let args = c.args in
+    narrowed args.b.now args.at_b args.c.now args.at_c c.in-Ok.ensures.1 (both_same _ c.in_default-2.ensures c.in_default-2.ensures')
 
-pub returns-then-contains : goal.returns-then-contains
-returns-then-contains c =
-    let on-b = found c.contains.ensures c.if-contains.true in
-    first_alone on-b (missing c.contains-then-contains.ensures c.if-contains-2.false) c.is_added.ensures
-
-pub returns-then-contains-3 : goal.returns-then-contains-3
-returns-then-contains-3 c =
-    let off-b = missing c.contains.ensures c.if-contains.false in
-    second_alone off-b (found c.contains-2.ensures c.if-contains-3.true) c.is_added-then-contains-3.ensures
-
-pub returns : goal.returns
-returns c =
-    let off-b = missing c.contains.ensures c.if-contains.false in
-    let off-c = missing c.contains-2.ensures c.if-contains-3.false in
-    decides_yes (λ k. absurd (off-b k), λ k. absurd (off-c k))
+pub returns-in_default-2-2 : goal.returns-in_default-2-2
+returns-in_default-2-2 c =
+    let args = c.args in
+    narrowed args.b.now args.at_b args.c.now args.at_c c.in-Ok.ensures.1 (both_same _ c.in_default-2.ensures c.in_default-2.ensures')
