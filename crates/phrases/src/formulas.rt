@@ -12,6 +12,7 @@ use tables::records::{AND, ATOM, BOT, IMP, NOT, NodeRecord, OR, node};
 use writer::Writer;
 
 // The word of a record whose parts are formulas before i; falsum, where it has another part or there is no such word.
+#[tactic(auto, using(std::proofs::lemmas::Bool::Decides::nat_tests), unfolding(crate::specs::Formulas::word_before))]
 fn word_before(n: NodeRecord, i: usize) -> u16
     ensures { result ≡ word_before n i }
 {
@@ -26,6 +27,7 @@ fn word_before(n: NodeRecord, i: usize) -> u16
 }
 
 // The bracket before a formula of two parts, with the word before the first part.
+#[tactic(auto, using(std::proofs::lemmas::Bool::Decides::nat_tests), unfolding(crate::specs::Formulas::bracket_of))]
 fn bracket(word: u16) -> &'static [u8]
     ensures { result.now ≡ bracket_of word }
 {
@@ -36,6 +38,7 @@ fn bracket(word: u16) -> &'static [u8]
 }
 
 // The word between its parts.
+#[tactic(auto, using(std::proofs::lemmas::Bool::Decides::nat_tests), unfolding(crate::specs::Formulas::connective_of))]
 fn connective(word: u16) -> &'static [u8]
     ensures { result.now ≡ connective_of word }
 {
@@ -47,6 +50,7 @@ fn connective(word: u16) -> &'static [u8]
 }
 
 impl<'a> Sheet<'a> {
+    #[tactic(auto, using(writer::proofs::Writing::puts_then), unfolding(words::specs::Words::formula_words))]
     fn put_atom(self, atom: usize, out: &mut Writer)
         ensures { Puts (formula_words (atomNamed (name_in self.entry atom))) out.old out.new }
     {

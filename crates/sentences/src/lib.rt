@@ -28,6 +28,7 @@ pub struct Book<'a> {
     pub right: &'a [u16],
 }
 
+#[tactic(auto, using(std::proofs::lemmas::Bool::Decides::nat_tests), unfolding(crate::specs::Sentences::elk_rule))]
 fn kind_of(rule: u16) -> Kind
     ensures { kind_of result ≡ kind_by (elk_rule rule) }
 {
@@ -39,6 +40,7 @@ fn kind_of(rule: u16) -> Kind
 }
 
 // The number of a row, and the meaning of its rule.
+#[tactic(auto, using(writer::proofs::Writing::puts_then), unfolding(crate::specs::Sentences::heading_words))]
 fn put_heading(number: u16, rule: u16, out: &mut Writer)
     ensures { Puts (heading_words number rule) out.old out.new }
 {
@@ -51,6 +53,7 @@ fn put_heading(number: u16, rule: u16, out: &mut Writer)
 
 impl<'a> Book<'a> {
     // What the row rests on: its principal formula, and its premises.
+    #[tactic(auto, using(writer::proofs::Writing::puts_then), unfolding(crate::specs::Sentences::ground_words))]
     fn put_grounds(self, held: RowRecord, out: &mut Writer)
         ensures { Puts (grounds_in self.entry held) out.old out.new }
     {
@@ -61,6 +64,7 @@ impl<'a> Book<'a> {
     }
 
     // What the row says: its two sides.
+    #[tactic(auto, using(writer::proofs::Writing::puts_then), unfolding(crate::specs::Sentences::sequent_words))]
     fn put_sequent(self, kind: Kind, at: usize, out: &mut Writer)
         ensures { Puts (sequent_in self.entry (kind_of kind) at) out.old out.new }
     {

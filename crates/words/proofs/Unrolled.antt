@@ -37,12 +37,6 @@ module _ {X : Type 0} (empty opening between : String) (word : X → Bytes) wher
   listing_none [] h = refl
   listing_none (x ∷ xs) h = absurd (omega arith)
 
-  pub listing_first : (xs : List X) (d : X) → 0 < length xs
-      → listing empty opening between word xs ≡ bytes opening ++ (word (get_or xs 0 d) ++ items between word (drop 1 xs))
-  unfolding listing
-  listing_first [] d h = absurd (omega arith)
-  listing_first (x ∷ xs) d h = refl
-
   pub listing_map : {Y : Type 0} (f : Y → X) (ys : List Y)
       → listing empty opening between word (map f ys) ≡ listing empty opening between (λ y. word (f y)) ys
   unfolding listing
