@@ -1,4 +1,5 @@
-// The calls on whole texts, each under its C name. `include/govelamuth.h` has their promises; `govelamuth_c` exports them.
+// The calls on whole texts, each under its C name and with the tables one by one, as in C. `include/govelamuth.h` has
+// their promises; `govelamuth_c` exports them.
 #![tactic(auto)]
 
 ghost use Rattle.std.specs.Prelude.{length};

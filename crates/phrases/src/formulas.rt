@@ -1,5 +1,6 @@
-// The words of a formula: in full brackets, with the names of its atoms in quotes. Formulas share their parts, so the words of
-// one may be longer than any text: nothing is written once there is no room, and the time is bounded by the room.
+// The words of a formula: in full brackets, with the names of its atoms in quotes. Formulas share their parts, so the
+// words of one may be longer than any text: nothing is written once there is no room, and the time is bounded by the
+// room.
 ghost use Rattle.std.specs.Prelude.{◌≡◌};
 ghost use Rattle.words.specs.Words.{formula_words};
 ghost use Rattle.words.specs.Told.{atom as atomNamed};

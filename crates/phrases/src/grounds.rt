@@ -1,4 +1,5 @@
-// The words of what a row rests on: its principal formula, and its premises.
+// The words of what a row rests on: its principal formula, and its premises, as the record of a row has them. Records
+// are C's: they hold any numbers, and `ABSENT` for none.
 ghost use Rattle.words.specs.Words.{principal_words, premise_words};
 ghost use Rattle.writer.specs.Putting.{Puts};
 ghost use Rattle.phrases.specs.Rows.{premises_from};

@@ -1,4 +1,5 @@
-// The words of a side, as each calculus means it: an opening and then its formulas, or words of their own for an empty one.
+// The words of a side, as each calculus means it: an opening and then its formulas, or words of their own for an
+// empty one.
 ghost use Rattle.std.specs.Prelude.{◌≡◌};
 ghost use Rattle.format.specs.Text.{bytes};
 ghost use Rattle.words.specs.Words.{empty_side, side_opening};

@@ -1,5 +1,5 @@
-// The sentence of each row of a file, written into a lent text one after the other. The tables may have any length and hold
-// anything, and so may the lent text.
+// The sentence of each row of a file, written into a lent text one after the other. The tables may have any length
+// and hold anything, and so may the lent text.
 #![tactic(auto)]
 
 ghost use Rattle.std.specs.Prelude.{◌≡◌, Some};
@@ -76,7 +76,8 @@ impl<'a> Book<'a> {
         out.put(b".\n");
     }
 
-    // The sentence of a row, written at the start of what is left of a lent text: how many bytes it takes, if there is room.
+    // The sentence of a row, written at the start of what is left of a lent text: how many bytes it takes, if there
+    // is room.
     pub(crate) fn put_sentence(self, number: u16, rest: &mut [u8]) -> Option<usize>
         ensures { Writes (sentence_in self.entry number) rest.old (Some 0) rest.new result }
     {

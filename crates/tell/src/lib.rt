@@ -14,7 +14,8 @@ use sentences::Book;
 use tables::records::narrow_place;
 use writer::pad;
 
-// The sentences of the first `count` rows, with zeros after them, and whether there is room; zeros alone where there is none.
+// The sentences of the first `count` rows, with zeros after them, and whether there is room; zeros alone where there
+// is none.
 fn put_words(book: Book, count: u16, words: &mut [u8]) -> bool
     ensures { PutsWords (sentences_in book.entry 0 count) (length words.old) words.new result }
 {
@@ -23,8 +24,9 @@ fn put_words(book: Book, count: u16, words: &mut [u8]) -> bool
     end.is_some()
 }
 
-// The answer to a text. If it is accepted and there is room, the file is in the lent tables and the sentences of its rows are in
-// the lent text, with zeros after each; else all of them are zero. They may have any length and hold anything before.
+// The answer to a text. If it is accepted and there is room, the file is in the lent tables and the sentences of its
+// rows are in the lent text, with zeros after each; else all of them are zero. They may have any length and hold
+// anything before. The tables are lent one by one, as in C.
 pub fn tell(
     text: &[u8],
     names: &mut [u16],

@@ -1,6 +1,6 @@
-// Words, numbers, names and single bytes written one after the other into a lent text of any length. A writer has what was written
-// before and how far that reaches, so that a caller goes on without a test at each word: where there was no room once, there is
-// none after.
+// Words, numbers, names and single bytes written one after the other into a lent text of any length. A writer has
+// what was written before and how far that reaches, so that a caller goes on without a test at each word: where there
+// was no room once, there is none after.
 #![tactic(auto)]
 
 pub mod names;

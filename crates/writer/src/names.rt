@@ -7,7 +7,8 @@ ghost use Rattle.writer.specs.Putting.{Puts};
 use crate::Writer;
 use counts::limits::NAME_WIDTH;
 
-// The part of the text at a place, empty where it does not lie inside.
+// The part of the text at a place, empty where it does not lie inside. `part` in `tables` is this for 16-bit numbers:
+// one function for both would need a second definition, over lists of any type.
 fn piece(text: &[u8], start: u16, len: u16) -> &[u8]
     ensures { result.now ≡ part text.now start len }
 {
