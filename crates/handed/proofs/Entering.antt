@@ -9,7 +9,8 @@ use mathlib.Core.List.{List, [], ◌∷◌}
 use mathlib.Core.Option.{Option, none, some}
 use lib.Dec.{eqb, leb, ltb}
 use lib.ListN.{length, get_or, set, replicate, length-set}
-use borrow.Author.Tests.{ne_eqb, lt-ltb, le-ltb, ltb-true, ltb-false, leb-true, leb-false}
+use borrow.Author.Tests.{ne_eqb, lt-ltb, le-ltb, leb-true, leb-false}
+use Rattle.std.specs.Prelude.{Ok, Err, is_ok}
 use Rattle.format.specs.Text.{any, same_list, only_if}
 use Rattle.format.specs.File.{Node, Body, add_node}
 use Rattle.format.specs.Tables.{absent, node_record, most_atoms, most_formulas}
@@ -19,9 +20,9 @@ use Rattle.counts.specs.Counts.{counts_of}
 use Rattle.counts.specs.declared.Counts.{Counts}
 use Rattle.tables.specs.Records.{node_at, record_from, record_numbers}
 use Rattle.tables.specs.declared.records.NodeRecord.{NodeRecord}
+use Rattle.known.specs.declared.NoEntry.{NoEntry}
 use Rattle.known.specs.Known.{Known}
-use Rattle.known.specs.Entering.{entry_refusal, with_new, Enters, FormulaEntered}
-use Rattle.known.specs.declared.Entry.{Entry}
+use Rattle.known.specs.Entering.{Entry, entry_refusal, with_new, Enters, FormulaEntered}
 use Rattle.known.proofs.Indexing.{index_none, length_entered}
 use Rattle.known.proofs.Knowing.{known_more}
 use Rattle.rows.specs.Judgement.{Ground}
@@ -108,20 +109,6 @@ module _ (b : Body) where
           cases (suc (suc (suc (suc (suc zero))))) l m = both_back one two
           cases (suc (suc (suc (suc (suc (suc w)))))) l m = absurd (omega arith)
 
-      -- an operand that is not earlier
-      pub late_back : (word ≡ 0 → ⊥) → (word ≡ 1 → ⊥) → word ≤ 5 → held ≤ one → false ≡ refers_back b (node_from word one two)
-      late_back no-bot no-atom l late = cases (ltb 2 word) refl
-        where
-          first_late : ltb one held ≡ false
-          first_late = le-ltb one held late
-
-          cases : (x : Bool) → ltb 2 word ≡ x → false ≡ refers_back b (node_from word one two)
-          cases true e = two_back (omega (arith, lt_two e)) l false (ltb two held) first_late refl
-            where
-              lt_two : ltb 2 word ≡ true → 2 < word
-              lt_two k = ltb-true 2 word k
-          cases false e = not_back (omega (arith, no-bot, no-atom, ltb-false 2 word e)) false (eqb two absent) first_late refl
-
 -- ---- one formula more
 
 -- where it is none, or names a later one, there is no step
@@ -152,12 +139,6 @@ notes_kept (Enters.held i few found f w) = ap length w
 notes_kept {notes = notes} {count} {key} (Enters.new few found more) =
     ap length more.noted ∙ length_entered (set notes count more.atoms) count (record_numbers key) ∙ length-set notes count more.atoms
 
--- it was new
-abbrev pub is_new : Entry → Bool
-is_new (Entry.Held i) = false
-is_new (Entry.New i) = true
-is_new Entry.Full = false
-
 module _ (formulas notes : List ℕ) (atoms i : ℕ) (key : NodeRecord) (is_key : key ≡ record_from (node_at formulas i)) (fits : Bool)
     (back : (b : Body) → atoms ≡ b.atoms → i ≡ length b.nodes → fits ≡ refers_back b (node_from key.word key.first key.second)) where
   module _ (b : Body) (rows left right : List ℕ) (a : atoms ≡ b.atoms) (at : i ≡ length b.nodes) where
@@ -183,7 +164,7 @@ module _ (formulas notes : List ℕ) (atoms i : ℕ) (key : NodeRecord) (is_key 
 
   -- one that names earlier ones, which was noted or is held already
   pub entered_some : {notes' : List ℕ} {r : Entry} → fits ≡ true → FormulaEntered formulas notes i key (with_new formulas i key r) notes' r
-      → (answer : Bool) → answer ≡ is_new r → NodeEntered formulas notes atoms i notes' answer
+      → (answer : Bool) → answer ≡ is_ok r → NodeEntered formulas notes atoms i notes' answer
   entered_some {notes'} {r} e noted answer is = record { stepped = stepped; kept = notes_kept noted.entry }
     where
       stepped : (b : Body) (rows left right : List ℕ) → Ground b (counts_of b) formulas notes rows left right → b.rows ≡ []
@@ -216,11 +197,11 @@ module _ (formulas notes : List ℕ) (atoms i : ℕ) (key : NodeRecord) (is_key 
               shorter true = refl
               shorter false = refl
 
-          by_entry : (q : Entry) → Enters formulas notes i key (with_new formulas i key r) notes' q → answer ≡ is_new q
+          by_entry : (q : Entry) → Enters formulas notes i key (with_new formulas i key r) notes' q → answer ≡ is_ok q
               → FoundKnown (unless (entry_refusal q) (add_node b node)) answer notes'
-          by_entry (Entry.Held j) h k = k
-          by_entry Entry.Full h k = k
-          by_entry (Entry.New j) (Enters.new few missing more) k = (k, known_more ground.good ground.known node is_record more found.2 at few roomy)
+          by_entry (Err (NoEntry.Held j)) h k = k
+          by_entry (Err NoEntry.Full) h k = k
+          by_entry (Ok j) (Enters.new few missing more) k = (k, known_more ground.good ground.known node is_record more found.2 at few roomy)
 
 -- ---- all formulas
 

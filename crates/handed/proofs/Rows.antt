@@ -12,6 +12,8 @@ use lib.Dec.{eqb, leb, ltb}
 use lib.ListN.{length, get_or, replicate, get_elem?}
 use lib.Seq.{take_all}
 use borrow.Author.Tests.{ltb-true, lt-ltb}
+use Rattle.std.specs.Prelude.{None, Some}
+use Rattle.std.specs.Prelude.{Option as Counted}
 use Rattle.equilibrium.specs.Formula.{atoms_of}
 use Rattle.equilibrium.specs.Meaning.{◌∈◌}
 use Rattle.elk.specs.Rules.{Rule, rules}
@@ -23,7 +25,7 @@ use Rattle.format.specs.Good.{bare}
 use Rattle.format.proofs.Booleans.{and_true}
 use Rattle.format.proofs.Tested.{passes}
 use Rattle.atomset.specs.AtomSet.{Member}
-use Rattle.text.specs.Lists.{most_counted, listed_as}
+use Rattle.text.specs.Lists.{most_counted, listed_of}
 use Rattle.counts.specs.Counts.{counts_of, full_for, count_row}
 use Rattle.counts.specs.declared.Counts.{Counts}
 use Rattle.counts.proofs.Counting.{counts_row}
@@ -45,8 +47,8 @@ use Rattle.bodies.specs.Walk.{pools_agree, walked_nodes, walked_rows, body_in}
 use Rattle.bodies.proofs.Choices.{only_some, then_some, repeated_keeps, repeated_last, repeated_counts, repeated_fails}
 use Rattle.bodies.proofs.Decoding.{rule_exact, premises_exact}
 use Rattle.bodies.proofs.Fronts.{part_there, part_next}
-use Rattle.bodies.proofs.Walking.{Read, bare_read, node_step_read, node_step_count, row_stepped, row_step_read, row_step_count, found_open, no_body_lem}
-use Rattle.handed.specs.Handed.{Roomy, NodesRead, draft_from, stands_next, counts_in, NextRow, is_some, RowsRead, BodyRead}
+use Rattle.bodies.proofs.Walking.{Read, bare_read, node_step_read, node_step_count, row_stepped, row_step_read, found_open, no_body_lem}
+use Rattle.handed.specs.Handed.{Roomy, NodesRead, premises_in, draft_from, stands_next, counts_in, NextRow, is_some, RowsRead, BodyRead}
 use Rattle.handed.proofs.Zeros.{limits_kept}
 use Rattle.handed.proofs.Stored.{stands_by}
 use Rattle.handed.proofs.Entering.{found_some, found_none}
@@ -65,14 +67,14 @@ no_rule_lem code e = cases (rule_at code) refl
     cases none k = refl
     cases (some q) k = absurd (true≢false (sym (lt-ltb code 38 (omega (arith, rule_exact code q k, code_below q))) ∙ e))
 
-some_premises : (one two : ℕ) → not (eqb one absent) || eqb two absent ≡ true → (ps : List ℕ) × (premises_from one two ≡ some ps)
+some_premises : (one two : ℕ) → not (eqb one absent) || eqb two absent ≡ true → premises_from one two ≡ some (premises_in one two)
 some_premises one two e = cases (eqb one absent) (eqb two absent) refl refl e
   where
-    cases : (x y : Bool) → eqb one absent ≡ x → eqb two absent ≡ y → not x || y ≡ true → (ps : List ℕ) × (premises_from one two ≡ some ps)
-    cases true true p q h = ([], cc)
+    cases : (x y : Bool) → eqb one absent ≡ x → eqb two absent ≡ y → not x || y ≡ true → premises_from one two ≡ some (premises_in one two)
+    cases true true p q h = cc
     cases true false p q h = absurd (false≢true h)
-    cases false true p q h = (one ∷ [], cc)
-    cases false false p q h = (one ∷ two ∷ [], cc)
+    cases false true p q h = cc
+    cases false false p q h = cc
 
 no_premises : (one two : ℕ) → not (eqb one absent) || eqb two absent ≡ false → premises_from one two ≡ none
 no_premises one two e = cases (eqb one absent) (eqb two absent) refl refl e
@@ -87,7 +89,7 @@ make_none f none = refl
 make_none f (some a) = refl
 
 -- a list that is its own table
-own_laid : (xs : List ℕ) → Laid xs (listed_as (some xs)) xs
+own_laid : (xs : List ℕ) → Laid xs (listed_of xs) xs
 own_laid xs = record { answer = refl; front = λ few narrow. take_all (min (length xs) most_counted) xs (omega (arith, few)) }
 
 module _ (t : Tables) (notes : List ℕ) (held : Counts) (b : Body) (g : Ground b held t.formulas notes t.rows t.left t.right)
@@ -152,7 +154,7 @@ module _ (t : Tables) (notes : List ℕ) (held : Counts) (b : Body) (g : Ground 
     rule_found = item_there rules (n 0) (ltb-true (n 0) 38 three.1)
 
     premises_found : (ps : List ℕ) × (premises_from (n 2) (n 3) ≡ some ps)
-    premises_found = some_premises (n 2) (n 3) all_four.1
+    premises_found = (premises_in (n 2) (n 3), some_premises (n 2) (n 3) all_four.1)
 
     pub row_there : Row
     row_there = made rule_found.0 premises_found.0
@@ -185,12 +187,12 @@ module _ (t : Tables) (notes : List ℕ) (held : Counts) (b : Body) (g : Ground 
       right_is = is_right ∙ ap₂ (part t.right) (same_at 6 (omega arith)) (same_at 7 (omega arith))
 
       own_drafted : Drafted row_there (draft_from (row_from numbers) row_there.left row_there.right) row_there.left row_there.right
-      unfolding row_there
+      unfolding row_there premises_found
       own_drafted =
           record {
             rule = sym (rule_exact (n 0) rule_found.0 rule_found.1);
             principal = refl;
-            premises = ap listed_as premises_found.1;
+            premises = refl;
             first_premise = λ narrow. sym (premises_exact (n 2) (n 3) premises_found.0 premises_found.1).0;
             second_premise = λ narrow. sym (premises_exact (n 2) (n 3) premises_found.0 premises_found.1).1;
             left_laid = own_laid _;
@@ -220,13 +222,13 @@ module _ (t : Tables) (notes : List ℕ) (held : Counts) (b : Body) (g : Ground 
         pub row_fails : (number ≡ 0 → ⊥) → row_step t b ≡ none
         row_fails ne = step_is ∙ ap (λ (o : Option ℕ). unless o (add_row b row_there)) (numbered_some number ne)
 
-        pub row_counted : number ≡ 0 → (c : Counts) → c ≡ count_row held (length antecedent) (length succedent) → c ≡ counts_in (row_step t b) held
+        pub row_counted : number ≡ 0 → (c : Counts) → c ≡ count_row held (length antecedent) (length succedent) → Some c ≡ counts_in (row_step t b)
         unfolding full_for
         row_counted z c is_c =
-            is_c ∙ ap (λ (h : Counts). count_row h (length antecedent) (length succedent)) g.counts
+            ap Some (is_c ∙ ap (λ (h : Counts). count_row h (length antecedent) (length succedent)) g.counts
             ∙ ap₂ (λ (l r : List ℕ). count_row (counts_of b) (length l) (length r)) left_is right_is
-            ∙ counts_row b row_there (passes 5 (body_tests b row_there) tests)
-            ∙ ap (λ (o : Option Body). counts_in o held)
+            ∙ counts_row b row_there (passes 5 (body_tests b row_there) tests))
+            ∙ ap counts_in
             (sym (step_is ∙ ap (λ (o : Option ℕ). unless o (add_row b row_there)) ((numbered_none number).1 z)))
           where
             tests : first (body_tests b row_there) ≡ none
@@ -271,41 +273,33 @@ rows_start t notes c = (
 )
 
 module _ (t : Tables) (notes : List ℕ) (c held : Counts) (i : ℕ) (so_far : RowsSoFar t notes c held i) where
-  module _ (r : Counts) (turn : NextRow t notes held r) (more : i < c.rows) where
-    pub rows_fail : r.rows ≡ held.rows → RowsRead t notes c false
-    rows_fail same b g none_yet a f =
+  module _ (r : Counted Counts) (turn : NextRow t notes held r) (more : i < c.rows) where
+    pub rows_fail : r ≡ None → RowsRead t notes c false
+    rows_fail none_next b g none_yet a f =
         let at = so_far.1 b g none_yet a f in
         sym (ap (λ (o : Option Body). is_some (and_then o (λ d. only_if (pools_agree c d) (some d))))
         (repeated_fails (row_step t) i c.rows b at.body at.walked (stops at (row_step t at.body) refl) more))
       where
         stops : (at : Along t notes held i b) (o : Option Body) → row_step t at.body ≡ o → o ≡ none
         stops at none e = refl
-        stops at (some u) e =
-            let counted : r ≡ counts_of u = turn at.body at.ground ∙ ap (λ (p : Option Body). counts_in p held) e in
-            absurd (omega (
-              arith,
-              same,
-              ap (λ (k : Counts). k.rows) counted,
-              ap (λ (k : Counts). k.rows) at.ground.counts,
-              row_step_count t at.body u e,
-            ))
+        stops at (some u) e = let both : None ≡ Some (counts_of u) = sym none_next ∙ turn at.body at.ground ∙ ap counts_in e in cc
 
-    pub rows_more : (r.rows ≡ held.rows → ⊥) → RowsSoFar t notes c r (i + 1)
-    rows_more other = (omega arith, λ b g none_yet a f. let at = so_far.1 b g none_yet a f in goes b at (row_step t at.body) refl)
+    pub rows_more : (next : Counts) → r ≡ Some next → RowsSoFar t notes c next (i + 1)
+    rows_more next is_next = (omega arith, λ b g none_yet a f. let at = so_far.1 b g none_yet a f in goes b at (row_step t at.body) refl)
       where
-        goes : (b : Body) (at : Along t notes held i b) (o : Option Body) → row_step t at.body ≡ o → Along t notes r (i + 1) b
-        goes b at none e =
-            absurd (other (ap (λ (k : Counts). k.rows) (turn at.body at.ground ∙ ap (λ (p : Option Body). counts_in p held) e)))
+        goes : (b : Body) (at : Along t notes held i b) (o : Option Body) → row_step t at.body ≡ o → Along t notes next (i + 1) b
+        goes b at none e = let both : Some next ≡ None = sym is_next ∙ turn at.body at.ground ∙ ap counts_in e in cc
         goes b at (some u) e =
             let was : Read t at.body = record { good = at.ground.good; nodes = at.ground.nodes; rows = at.ground.rows_held } in
             let now-read = row_step_read t at.body u was e in
+            let both : Some next ≡ Some (counts_of u) = sym is_next ∙ turn at.body at.ground ∙ ap counts_in e in
             record {
               body = u;
               walked = ap (λ (k : ℕ). repeated (row_step t) k b) (add-one i) ∙ repeated_last (row_step t) i b at.body at.walked ∙ e;
               ground =
                   record {
                     good = now-read.0.good;
-                    counts = turn at.body at.ground ∙ ap (λ (p : Option Body). counts_in p held) e;
+                    counts = cc;
                     nodes = now-read.0.nodes;
                     known = known_same at.body u notes now-read.1 at.ground.known;
                     rows_held = now-read.0.rows;

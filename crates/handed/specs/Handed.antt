@@ -1,11 +1,13 @@
 -- What the judging of handed-in tables comes to, as a whole and on its way along their records.
-use Rattle.std.specs.Prelude.{ℕ, ◌+◌, ◌*◌, ◌≤◌, ◌≡◌, Bool, true, false, not, ◌&&◌, ◌||◌, List, [], eqb, leb, ltb, length, replicate}
+use Rattle.std.specs.Prelude.{None, Some}
+use Rattle.std.specs.Prelude.{Option as Counted}
+use Rattle.std.specs.Prelude.{ℕ, ◌+◌, ◌*◌, ◌≤◌, ◌≡◌, Bool, true, false, not, ◌&&◌, ◌||◌, cond, List, [], ◌∷◌, eqb, leb, ltb, length, replicate}
 use Rattle.std.proofs.Math.Option.{Option, none, some}
 use Rattle.format.specs.File.{Node, Body}
 use Rattle.format.specs.Tables.{absent, most_atoms, most_formulas}
 use Rattle.format.specs.Tests.{refers_ahead}
-use Rattle.text.specs.Numbers.{principal_as}
-use Rattle.text.specs.Lists.{listed_as}
+use Rattle.text.specs.Numbers.{number_as}
+use Rattle.text.specs.Lists.{listed_of}
 use Rattle.counts.specs.Counts.{counts_of}
 use Rattle.counts.specs.declared.Counts.{Counts}
 use Rattle.tables.specs.declared.records.RowRecord.{RowRecord}
@@ -13,7 +15,7 @@ use Rattle.known.specs.Known.{Known}
 use Rattle.drafts.specs.declared.Draft.{Draft}
 use Rattle.rows.specs.Judgement.{Ground}
 use Rattle.bodies.specs.Open.{Tables, four, IsOpen}
-use Rattle.bodies.specs.Walk.{principal_from, premises_from, node_step, row_step, walked_nodes, walked_rows}
+use Rattle.bodies.specs.Walk.{principal_from, node_step, row_step, walked_nodes, walked_rows}
 
 -- ---- formulas
 
@@ -47,17 +49,21 @@ pub record NodesRead (formulas notes : List ℕ) (c : Counts) (notes' : List ℕ
 
 -- ---- rows
 
+-- the premises of two fields, where there is no second without a first
+abbrev pub premises_in : ℕ → ℕ → List ℕ
+premises_in one two = cond (eqb one absent) [] (one ∷ cond (eqb two absent) [] (two ∷ []))
+
 -- the draft of a row as its record tells it, with these sides
 abbrev pub draft_from : RowRecord → List ℕ → List ℕ → Draft
 draft_from record' left right =
     record {
       rule = record'.rule;
-      principal = principal_as (some (principal_from record'.principal));
-      premises = listed_as (premises_from record'.first record'.second);
+      principal = number_as (principal_from record'.principal);
+      premises = listed_of (premises_in record'.first record'.second);
       first = record'.first;
       second = record'.second;
-      left = listed_as (some left);
-      right = listed_as (some right);
+      left = listed_of left;
+      right = listed_of right;
     }
 
 -- the sides lie in their pools, which are so long, after what is held; the rule is one of the 38, and there is no second premise
@@ -69,14 +75,14 @@ stands_next n left right held =
     && ltb n.rule 38
     && (not (eqb n.first absent) || eqb n.second absent)
 
--- the counts of a body, or these where there is none
-abbrev pub counts_in : Option Body → Counts → Counts
-counts_in none c = c
-counts_in (some b) c = counts_of b
+-- the counts of a body, if there is one
+abbrev pub counts_in : Option Body → Counted Counts
+counts_in none = None
+counts_in (some b) = Some (counts_of b)
 
 -- one row more, over every good body that the tables begin with
-abbrev pub NextRow : Tables → List ℕ → Counts → Counts → Type 0
-NextRow t notes held r = (b : Body) → Ground b held t.formulas notes t.rows t.left t.right → r ≡ counts_in (row_step t b) held
+abbrev pub NextRow : Tables → List ℕ → Counts → Counted Counts → Type 0
+NextRow t notes held r = (b : Body) → Ground b held t.formulas notes t.rows t.left t.right → r ≡ counts_in (row_step t b)
 
 -- there is one
 abbrev pub is_some : Option Body → Bool

@@ -1,115 +1,73 @@
 // The handed-in rows, each judged again over those before it, by the tables that begin with these.
 ghost use Rattle.std.specs.Prelude.{◌≡◌, ◌&&◌, ◌+◌, eqb, leb, length};
-ghost use Rattle.std.proofs.Math.Option.{some};
-ghost use Rattle.text.specs.Lists.{listed_as};
-ghost use Rattle.text.specs.Numbers.{principal_as};
+ghost use Rattle.text.specs.Lists.{listed_of};
+ghost use Rattle.text.specs.Numbers.{number_as};
 ghost use Rattle.bodies.specs.Open.{four};
-ghost use Rattle.bodies.specs.Walk.{principal_from, premises_from};
-ghost use Rattle.handed.specs.Handed.{draft_from, stands_next, NextRow, RowsRead};
+ghost use Rattle.bodies.specs.Walk.{principal_from};
+ghost use Rattle.handed.specs.Handed.{premises_in, draft_from, stands_next, NextRow, RowsRead};
 
 use counts::Counts;
 use drafts::Draft;
+use rows::body::Body;
 use rows::row_number;
+use sides::sequents::Sequent;
 use tables::fetch;
-use tables::records::{ABSENT, RowRecord, row, wide};
+use tables::records::{ABSENT, RowRecord, row};
 use text::lists::Listed;
-use text::numbers::Optional;
 
 // The codes of rules are below this.
 const RULES: usize = 38;
 
-// The least number above an entry.
-fn past(x: u16) -> usize
-    ensures { result ≡ x + 1 }
+// What is known of a list that is its own table.
+fn list_known(list: &[u16]) -> Listed
+    ensures { result ≡ listed_of list.now }
 {
-    wide(x) + 1
-}
-
-// What is known of a side that stands in its pool.
-fn side_listed(side: &[u16]) -> Listed
-    ensures { result ≡ listed_as (some side.now) }
-{
-    let mut above: usize = 0;
+    let mut above = 0usize;
     let mut rising = true;
-    let mut i = 0;
-    while i < side.len() {
-        let next = past(side[i]);
-        if next <= above {
-            rising = false;
-        } else {
-            above = next;
-        }
-        i += 1;
+    for x in list {
+        let x = usize::from(*x);
+        rising = rising && above <= x;
+        above = above.max(x + 1);
     }
     Listed {
-        well: true,
-        count: i,
+        count: list.len(),
         above,
         rising,
     }
 }
 
-// The premises of two fields. A second one without a first is badly written.
+// The premises of two fields.
 fn premises_listed(first: u16, second: u16) -> Listed
-    ensures { result ≡ listed_as (premises_from first second) }
+    ensures { result ≡ listed_of (premises_in first second) }
 {
     if first == ABSENT {
-        let none = second == ABSENT;
-        return Listed {
-            well: none,
-            count: 0,
-            above: 0,
-            rising: none,
-        };
+        return list_known(&[]);
     }
-    let one = past(first);
     if second == ABSENT {
-        return Listed {
-            well: true,
-            count: 1,
-            above: one,
-            rising: true,
-        };
+        return list_known(&[first]);
     }
-    let two = past(second);
-    if one < two {
-        return Listed {
-            well: true,
-            count: 2,
-            above: two,
-            rising: true,
-        };
-    }
-    Listed {
-        well: true,
-        count: 2,
-        above: one,
-        rising: false,
-    }
+    list_known(&[first, second])
 }
 
-fn principal_of(field: u16) -> Optional
-    ensures { result ≡ principal_as (some (principal_from field)) }
+fn principal_of(field: u16) -> Option<u32>
+    ensures { result ≡ number_as (principal_from field) }
 {
     if field == ABSENT {
-        return Optional::Absent;
+        return None;
     }
-    Optional::Value(field as u32)
+    Some(u32::from(field))
 }
 
 // Whether a side lies in its pool right after the `held` entries before it.
 fn in_place(start: u16, len: u16, held: usize, pool: usize) -> bool
     ensures { result ≡ eqb start held && leb (start + len) pool }
 {
-    if wide(start) != held {
-        return false;
-    }
-    wide(start) + wide(len) <= pool
+    usize::from(start) == held && usize::from(start) + usize::from(len) <= pool
 }
 
 // The draft of a row as its record tells it, with these sides.
-fn draft_of(stored: RowRecord, left: &[u16], right: &[u16]) -> Draft
-    ensures { result ≡ draft_from stored left.now right.now }
+fn draft_of(stored: RowRecord, sides: Sequent<'_>) -> Draft
+    ensures { result ≡ draft_from stored sides.entry.left.now sides.entry.right.now }
 {
     Draft {
         rule: stored.rule,
@@ -117,88 +75,58 @@ fn draft_of(stored: RowRecord, left: &[u16], right: &[u16]) -> Draft
         premises: premises_listed(stored.first, stored.second),
         first: stored.first,
         second: stored.second,
-        left: side_listed(left),
-        right: side_listed(right),
+        left: list_known(sides.left),
+        right: list_known(sides.right),
     }
 }
 
 // Whether the record of a row can be that of the next one, its sides and premises in their places and its rule one of the rules.
+#[tactic(auto, unfolding(crate::specs::Handed::stands_next))]
 fn stands_next(stored: RowRecord, left: usize, right: usize, held: Counts) -> bool
     ensures { result ≡ stands_next stored left right held }
 {
-    if !in_place(stored.left_start, stored.left_length, held.left, left) {
-        return false;
-    }
-    if !in_place(stored.right_start, stored.right_length, held.right, right) {
-        return false;
-    }
-    if RULES <= wide(stored.rule) {
-        return false;
-    }
-    if stored.first != ABSENT {
-        return true;
-    }
-    stored.second == ABSENT
+    in_place(stored.left_start, stored.left_length, held.left, left)
+        && in_place(stored.right_start, stored.right_length, held.right, right)
+        && usize::from(stored.rule) < RULES
+        && (stored.first != ABSENT || stored.second == ABSENT)
 }
 
-// The counts with the next row, or these counts where what stands there is no row that may follow.
-fn with_next_row<'a>(
-    formulas: &[u16],
-    notes: &[u64],
-    rows: &[u16],
-    left: &'a [u16],
-    right: &'a [u16],
-    held: Counts,
-) -> Counts
-    ensures { NextRow (four formulas.now rows.now left.now right.now)
-        notes.now held result }
+// The counts with the next row; None where what stands there is no row that may follow.
+fn with_next_row(body: Body<'_>, held: Counts) -> Option<Counts>
+    ensures { NextRow (four body.entry.formulas.now body.entry.rows.now body.entry.left.now body.entry.right.now)
+        body.entry.notes.now held result }
 {
-    let stored = row(rows, held.rows);
-    if !stands_next(stored, left.len(), right.len(), held) {
-        return held;
+    let stored = row(body.rows, held.rows);
+    if !stands_next(stored, body.left.len(), body.right.len(), held) {
+        return None;
     }
-    let antecedent = fetch(rows, left, right, true, held.rows);
-    let succedent = fetch(rows, left, right, false, held.rows);
-    let draft = draft_of(stored, antecedent, succedent);
-    let number = row_number(
-        draft, antecedent, succedent, formulas, notes, rows, left, right, held,
-    );
-    if number != 0 {
-        return held;
+    let sides = Sequent {
+        left: fetch(body.rows, body.left, body.right, true, held.rows),
+        right: fetch(body.rows, body.left, body.right, false, held.rows),
+    };
+    let judged = row_number(draft_of(stored, sides), sides, body, held);
+    if judged.is_err() {
+        return None;
     }
-    held.with_row(antecedent.len(), succedent.len())
+    Some(held.with_row(sides.left.len(), sides.right.len()))
 }
 
 // Whether the tables go on with as many rows as are counted, and with no more entries in the pools.
-pub(crate) fn read_rows<'a>(
-    formulas: &[u16],
-    notes: &[u64],
-    rows: &[u16],
-    left: &'a [u16],
-    right: &'a [u16],
-    counts: Counts,
-) -> bool
-    ensures { RowsRead (four formulas.now rows.now left.now right.now)
-        notes.now counts result }
+pub(crate) fn read_rows(body: Body<'_>, counts: Counts) -> bool
+    ensures { RowsRead (four body.entry.formulas.now body.entry.rows.now body.entry.left.now body.entry.right.now)
+        body.entry.notes.now counts result }
 {
     let mut held = Counts {
-        atoms: counts.atoms,
-        formulas: counts.formulas,
         rows: 0,
         left: 0,
         right: 0,
+        ..counts
     };
-    let mut i = 0;
-    while i < counts.rows {
-        let next = with_next_row(formulas, notes, rows, left, right, held);
-        if next.rows == held.rows {
+    for _row in 0..counts.rows {
+        let Some(next) = with_next_row(body, held) else {
             return false;
-        }
+        };
         held = next;
-        i += 1;
     }
-    if held.left != counts.left {
-        return false;
-    }
-    held.right == counts.right
+    held.left == counts.left && held.right == counts.right
 }

@@ -13,6 +13,7 @@ use counts::Counts;
 use derivation::read_rows;
 use formulas::read_formulas;
 use limits::only_counted;
+use rows::body::Body;
 
 // Whether the tables with these counts are those of a good body. The notes are to be fresh: as many as for the most formulas, and
 // zero.
@@ -33,5 +34,12 @@ pub fn holds_body<'a>(
     if !read_formulas(formulas, notes, counts) {
         return false;
     }
-    read_rows(formulas, notes, rows, left, right, counts)
+    let body = Body {
+        formulas,
+        notes,
+        rows,
+        left,
+        right,
+    };
+    read_rows(body, counts)
 }

@@ -6,40 +6,30 @@ ghost use Rattle.bodies.specs.Walk.{within as withinLimits, zeros_from, zeros_af
 use counts::Counts;
 use counts::limits::{MOST_ATOMS, MOST_ENTRIES, MOST_FORMULAS, MOST_ROWS, NODE_WIDTH, ROW_WIDTH};
 
+#[tactic(auto, unfolding(bodies::specs::Walk::within))]
 fn within(counts: Counts) -> bool
     ensures { result ≡ withinLimits counts }
 {
-    if MOST_ATOMS < counts.atoms {
-        return false;
-    }
-    if MOST_FORMULAS < counts.formulas {
-        return false;
-    }
-    if MOST_ROWS < counts.rows {
-        return false;
-    }
-    if MOST_ENTRIES < counts.left {
-        return false;
-    }
-    counts.right <= MOST_ENTRIES
+    counts.atoms <= MOST_ATOMS
+        && counts.formulas <= MOST_FORMULAS
+        && counts.rows <= MOST_ROWS
+        && counts.left <= MOST_ENTRIES
+        && counts.right <= MOST_ENTRIES
 }
 
 // Whether nothing but zero stands in a table from a place on. Every number is looked at, so that many can be compared at once.
 fn zeros_from(table: &[u16], from: usize) -> bool
     ensures { result ≡ zeros_from from table.now }
 {
-    let mut zeros = true;
-    let mut i = from;
-    while i < table.len() {
-        if table[i] != 0 {
-            zeros = false;
-        }
-        i += 1;
-    }
-    zeros
+    table
+        .get(from..)
+        .unwrap_or(&[])
+        .iter()
+        .fold(true, |zeros, x| zeros & (*x == 0))
 }
 
 // Whether no count is over its limit, and nothing but zero follows what is counted.
+#[tactic(auto, using(crate::proofs::Zeros::limits_kept))]
 pub(crate) fn only_counted(
     formulas: &[u16],
     rows: &[u16],
@@ -50,17 +40,9 @@ pub(crate) fn only_counted(
     ensures { result ≡ withinLimits counts
         && zeros_after (four formulas.now rows.now left.now right.now) counts }
 {
-    if !within(counts) {
-        return false;
-    }
-    if !zeros_from(formulas, NODE_WIDTH * counts.formulas) {
-        return false;
-    }
-    if !zeros_from(rows, ROW_WIDTH * counts.rows) {
-        return false;
-    }
-    if !zeros_from(left, counts.left) {
-        return false;
-    }
-    zeros_from(right, counts.right)
+    within(counts)
+        && zeros_from(formulas, NODE_WIDTH * counts.formulas)
+        && zeros_from(rows, ROW_WIDTH * counts.rows)
+        && zeros_from(left, counts.left)
+        && zeros_from(right, counts.right)
 }

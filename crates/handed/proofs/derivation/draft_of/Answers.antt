@@ -5,6 +5,6 @@ pub returns : goal.returns
 returns c =
     let principal = c.principal_of.ensures in
     let above = c.premises_listed.ensures in
-    let antecedent = c.side_listed.ensures in
-    let succedent = c.side_listed-2.ensures in
+    let antecedent = c.list_known.ensures in
+    let succedent = c.list_known-2.ensures in
     cc (principal, above, antecedent, succedent)

@@ -1,11 +1,8 @@
--- `handed::derivation::read_rows` meets its contract. The loop's invariant: the first `i` rows are those of a good body.
-use Prim.Native.Nat.{◌-◌}
+-- `handed::derivation::read_rows` meets its contract. The loop's invariant: so many rows are those of a good body.
 use Rattle.bodies.specs.Open.{four}
 use Rattle.handed.proofs.Rows.{RowsSoFar}
 use Rattle.handed.proofs.derivation.read_rows.Given as goal
 
-abbrev pub invariant-loop-i : goal.invariant-loop-i
-invariant-loop-i l = RowsSoFar (four l.formulas l.rows l.left l.right) l.notes l.counts l.held l.i
-
-abbrev pub decreases-loop-i : goal.decreases-loop-i
-decreases-loop-i l = l.counts.rows - l.i
+abbrev pub invariant-loop-row : goal.invariant-loop-row
+invariant-loop-row l =
+    RowsSoFar (four l.fn.body.formulas.now l.fn.body.rows.now l.fn.body.left.now l.fn.body.right.now) l.fn.body.notes.now l.counts l.held l._row
