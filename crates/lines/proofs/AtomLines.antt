@@ -24,22 +24,25 @@ use Rattle.format.proofs.Tested.{passes}
 use Rattle.format.proofs.Stepping.{first_applies, first_passes, step_atom}
 use Rattle.parts.specs.Parts.{start_of, between, FieldAt, Fielded}
 use Rattle.text.specs.Numbers.{number_as}
-use Rattle.text.specs.declared.numbers.Number.{Number}
+use Rattle.std.specs.Prelude.{Option as Answer, None, Some, Result, Ok, Err}
+use Rattle.std.specs.Option.{is_some}
+use Rattle.refusals.specs.Refusals.{number_of as refusal_number}
+use Rattle.refusals.specs.declared.Refusal.{Refusal}
+use Rattle.refusals.specs.declared.Refusal.TheVariants.{BadLine}
 use Rattle.parts.specs.declared.Fields.{Fields}
 use Rattle.counts.specs.Counts.{count_atom}
 use Rattle.tables.specs.Holding.{Begins}
 use Rattle.tables.specs.Names.{first_records, spelled_by, name_refusal, NameFound, StandsIn}
 use Rattle.tables.specs.Records.{written}
 use Rattle.counts.specs.declared.Counts.{Counts}
-use Rattle.tables.specs.declared.names.Found.{Found}
 use Rattle.counts.proofs.Counting.{counts_atom}
 use Rattle.tables.proofs.Encoded.{begins_padded, names_length, name_held}
 use Rattle.early.specs.Early.{numbered}
-use Rattle.state.specs.State.{refused_by, passed_by, not_next, Memory, Exactly, Stored}
+use Rattle.state.specs.State.{passed_by, not_next, Memory, Exactly, Stored}
 use Rattle.state.specs.Lined.{OfKind}
+use Rattle.lines.specs.Stepping.{at_line}
 use Rattle.lines.specs.AtomLines.{AtomNumbered, AtomLined, with_names}
 use Rattle.state.specs.declared.State.{State}
-use Rattle.state.specs.declared.Stepped.{Stepped}
 use Rattle.text.proofs.NumberLaws.{was_number, was_no_number}
 use Rattle.lines.proofs.LineLaws.{
   atom_written,
@@ -73,10 +76,10 @@ module _ (line : Bytes) (fields : Fields) (fielded : Fielded line fields) (kind 
     by_number : (o : Option ℕ) → number_of (get_or (fields_of line) 1 []) ≡ o → line_of line ≡ atom_written (name_in line) o
     by_number o e = line_atom line kind (sym fielded.counted ∙ three) ∙ ap (atom_written (name_in line)) e
 
-    pub atom_unnumbered : number_as (number_of (get_or (fields_of line) 1 [])) ≡ Number.Bad → line_of line ≡ none
+    pub atom_unnumbered : number_as (number_of (get_or (fields_of line) 1 [])) ≡ None → line_of line ≡ none
     atom_unnumbered e = by_number none (was_no_number _ e)
 
-    pub atom_read : (n : ℕ) → number_as (number_of (get_or (fields_of line) 1 [])) ≡ Number.Value n → line_of line ≡ some (atom_line n (name_in line))
+    pub atom_read : (n : ℕ) → number_as (number_of (get_or (fields_of line) 1 [])) ≡ Some n → line_of line ≡ some (atom_line n (name_in line))
     atom_read n e = by_number (some n) (was_number _ n e)
 
 -- ---- the number that an atom earns
@@ -93,6 +96,14 @@ six_told true true e = refl
 six_told false false e = refl
 six_told true false e = let z : ◌≡◌ {A = ℕ} 0 1 = cc in absurd (omega arith)
 six_told false true e = let z : ◌≡◌ {A = ℕ} 0 1 = cc in absurd (omega arith)
+
+six_some : (r : Answer ℕ) → is_some r ≡ true → name_refusal r ≡ six_if true
+six_some None e = absurd (false≢true e)
+six_some (Some i) e = refl
+
+six_none : (r : Answer ℕ) → is_some r ≡ false → name_refusal r ≡ six_if false
+six_none None e = refl
+six_none (Some i) e = absurd (false≢true (sym e))
 
 -- the tests of an atom, by the state and the names table
 abbrev atom_of : Bytes → List ℕ → State → ℕ → Bytes → List Test
@@ -158,17 +169,17 @@ module _ (text : Bytes) (names : List ℕ) (s : State) (n : ℕ) (name : Bytes) 
       pub atom_misnamed : is_name name ≡ false → AtomNumbered text names s n name 6
       atom_misnamed e = numbered_atom 6 (sym (named true (ap (λ (b : Bool). not b || used text names s name) e)))
 
-      module _ {r : Found} (looked : NameFound text name (first_records name_width s.counts.atoms names) r) where
+      module _ {r : Answer ℕ} (looked : NameFound text name (first_records name_width s.counts.atoms names) r) where
         by_answer : (b : Bool) → name_refusal r ≡ six_if b → used text names s name ≡ b
         by_answer b e = six_told (used text names s name) b (sym looked.refusal ∙ e)
 
-        pub atom_used : (i : ℕ) → r ≡ Found.At i → AtomNumbered text names s n name 6
-        atom_used i e =
+        pub atom_used : is_some r ≡ true → AtomNumbered text names s n name 6
+        atom_used e =
             numbered_atom 6 (
-            sym (named true (ap (λ (b : Bool). not (is_name name) || b) (by_answer true (ap name_refusal e)) ∙ or-true (not (is_name name)))))
+            sym (named true (ap (λ (b : Bool). not (is_name name) || b) (by_answer true (six_some r e)) ∙ or-true (not (is_name name)))))
 
-        pub atom_new : is_name name ≡ true → r ≡ Found.Nowhere → AtomNumbered text names s n name 0
-        atom_new e k = numbered_atom 0 (sym (named false (ap₂ (λ (a b : Bool). not a || b) e (by_answer false (ap name_refusal k)))))
+        pub atom_new : is_name name ≡ true → is_some r ≡ false → AtomNumbered text names s n name 0
+        atom_new e k = numbered_atom 0 (sym (named false (ap₂ (λ (a b : Bool). not a || b) e (by_answer false (six_none r k)))))
 
 -- ---- where the name stands
 
@@ -271,10 +282,9 @@ module _ {text line : Bytes} {start : ℕ} (at : NameAt text start line) (f : Fi
             there = ap (λ (k : ℕ). take (length (name_in line)) (drop (k + 3 + length (get_or (fields_of line) 1 [])) text)) placed ∙ at.stands;
           })
 
-  pub atom_stored : (number : ℕ)
-      → Stored text (with_atom f (name_start p line) (name_in line)) (passed_by s (count_atom s.counts) (rank in_atoms) number).state
+  pub atom_stored : Stored text (with_atom f (name_start p line) (name_in line)) (passed_by s (count_atom s.counts) (rank in_atoms))
       (with_names t (names_with t.names s start line))
-  atom_stored number =
+  atom_stored =
       record {
         full =
             record {
@@ -288,7 +298,6 @@ module _ {text line : Bytes} {start : ℕ} (at : NameAt text start line) (f : Fi
         counts = ap count_atom stored.counts ∙ counts_atom f.body (omega (arith, atoms_held));
         stage = refl;
         model = stored.model;
-        model_line = stored.model_line;
         claim = stored.claim;
         names_in = stand;
         names =
@@ -309,11 +318,11 @@ pub numbered_as : {text : Bytes} {names : List ℕ} {s : State} {n : ℕ} {a b :
     → AtomNumbered text names s n b k
 numbered_as {text} {names} {s} {n} {k = k} e = subst (λ (x : Bytes). AtomNumbered text names s n x k) e
 
-pub atom_bad : {text : Bytes} {start : ℕ} {line : Bytes} {number : ℕ} {s : State} {r : Stepped} (names : List ℕ) → line_of line ≡ none
-    → r ≡ refused_by s 3 number → AtomLined text start line number s r names names
-atom_bad names e given t = line_bad (with_names t names) e given
+pub atom_bad : {text : Bytes} {start : ℕ} {line : Bytes} {s : State} {r : Result State Refusal} (names : List ℕ) → line_of line ≡ none
+    → r ≡ Err BadLine → AtomLined text start line s r names names
+atom_bad names e given number t = line_bad (with_names t names) e (ap (at_line number) given)
 
-module _ (text : Bytes) (start : ℕ) (line : Bytes) (number : ℕ) (s : State) (r : Stepped) (names : List ℕ) (n : ℕ)
+module _ (text : Bytes) (start : ℕ) (line : Bytes) (s : State) (r : Result State Refusal) (names : List ℕ) (n : ℕ)
     (read : line_of line ≡ some (atom_line n (name_in line))) (k : ℕ) (numbers : AtomNumbered text names s n (name_in line) k) where
   tests_of : (t : Memory) (f : File) (done : List Bytes) → Good done f → Stored text f s (with_names t names)
       → numbered k ≡ first (atom_tests f n (name_in line))
@@ -321,27 +330,24 @@ module _ (text : Bytes) (start : ℕ) (line : Bytes) (number : ℕ) (s : State) 
       numbers.tests f (ap (λ (c : Counts). c.atoms) stored.counts) good.names.count stored.stage stored.names_in
       (begins_padded stored.names)
 
-  pub atom_refused : (k ≡ 0 → ⊥) → r ≡ refused_by s k number → AtomLined text start line number s r names names
-  atom_refused h given t =
-      line_refused k (with_names t names) given (λ f p done good stored.
-      step_atom f p line n (name_in line) read ∙ number_given k _ p.line _ (tests_of t f done good stored) h)
+  pub atom_refused : (refusal : Refusal) → k ≡ refusal_number refusal → r ≡ Err refusal → AtomLined text start line s r names names
+  atom_refused refusal is given number t =
+      line_refused refusal (with_names t names) (ap (at_line number) given) (λ f p done good stored.
+      step_atom f p line n (name_in line) read ∙ number_given refusal k _ p.line _ (tests_of t f done good stored) is)
 
-  atom_passed : NameAt text start line → k ≡ 0 → r ≡ passed_by s (count_atom s.counts) (rank in_atoms) number
-      → AtomLined text start line number s r names (names_with names s start line)
-  atom_passed at zero-k given t =
+  atom_passed : NameAt text start line → k ≡ 0 → r ≡ Ok (passed_by s (count_atom s.counts) (rank in_atoms))
+      → AtomLined text start line s r names (names_with names s start line)
+  atom_passed at zero-k given number t =
+      let ok = ap (at_line number) given in
       record {
         steps = λ f p done good stored size placed on.
             let passed = numbers.passed zero-k in
-            steps_next r (with_atom f (name_start p line) (name_in line))
+            steps_next _ (with_atom f (name_start p line) (name_in line))
             (step_atom f p line n (name_in line) read
             ∙ ap (λ (o : Option ℕ). settled o p.line (with_atom f (name_start p line) (name_in line))) (none_given k _ (tests_of t f done good stored) zero-k))
-            (ap (λ (x : Stepped). x.number) given)
-            (subst (λ (x : Stepped). Stored text (with_atom f (name_start p line) (name_in line)) x.state (with_names t (names_with names s start line)))
-            (sym given)
-            (atom_stored at f p stored good.names.count size placed passed.0 passed.1 number));
-        own_line = λ z. ap (λ (x : Stepped). x.line) given;
+            ok (atom_stored at f p stored good.names.count size placed passed.0 passed.1);
         keeps =
-            keeps_passed (ap (λ (x : Stepped). x.number) given)
+            keeps_passed ok
             (record {
               names = written_length names (name_width * s.counts.atoms) (new_numbers start line);
               formulas = refl;
@@ -353,10 +359,10 @@ module _ (text : Bytes) (start : ℕ) (line : Bytes) (number : ℕ) (s : State) 
       }
 
   -- the same, by the record as it is put
-  pub atom_put : NameAt text start line → k ≡ 0 → (counts : Counts) → counts ≡ count_atom s.counts → r ≡ passed_by s counts (rank in_atoms) number
+  pub atom_put : NameAt text start line → k ≡ 0 → r ≡ Ok (passed_by s (count_atom s.counts) (rank in_atoms))
       → (a l : ℕ) → a ≡ start_in start line % 65536 → l ≡ length (name_in line) % 65536
-      → (after : List ℕ) → after ≡ written names (name_width * s.counts.atoms) (a ∷ l ∷ []) → AtomLined text start line number s r names after
-  atom_put at zero-k counts more given a l starts long after put =
-      subst (AtomLined text start line number s r names)
+      → (after : List ℕ) → after ≡ written names (name_width * s.counts.atoms) (a ∷ l ∷ []) → AtomLined text start line s r names after
+  atom_put at zero-k given a l starts long after put =
+      subst (AtomLined text start line s r names)
       (ap₂ (λ (x y : ℕ). written names (name_width * s.counts.atoms) (x ∷ y ∷ [])) (sym starts) (sym long) ∙ sym put)
-      (atom_passed at zero-k (given ∙ ap (λ (x : Counts). passed_by s x (rank in_atoms) number) more))
+      (atom_passed at zero-k given)

@@ -2,13 +2,13 @@
 use Prim.Native.Nat.{ℕ, ◌+◌, ◌*◌, ◌%◌, ◌≤◌, ◌<◌}
 use native.Mathlib.Omega.{arith}
 use mathlib.Core.Path.{◌≡◌, refl, sym, ap, ap₂, subst, ◌∙◌}
-use mathlib.Core.Bool.{Bool, true, false, cond, ◌||◌, or-false, true≢false}
+use mathlib.Core.Bool.{Bool, true, false, cond, ◌||◌, or-false}
 use mathlib.Core.List.Memᴰ
 use mathlib.Core.List.{List, [], ◌∷◌, ◌++◌}
 use mathlib.Core.Option.{Option, none, some}
-use lib.Dec.{leb, eqb}
+use lib.Dec.{leb}
 use lib.ListN.{length, get_or, set, length-set}
-use borrow.Author.Tests.{le-leb, lt-leb, leb-false, eq-eqb, ne_eqb}
+use borrow.Author.Tests.{le-leb, lt-leb, leb-false}
 use Rattle.equilibrium.specs.Meaning.{◌∈◌}
 use Rattle.format.specs.Text.{Bytes, fields_of, number_of, is, any, same_list, ◌<$>◌, ◌<*>◌}
 use Rattle.format.specs.File.{Node, Body, File, in_formulas}
@@ -22,26 +22,31 @@ use Rattle.format.proofs.Stepping.{step_formula}
 use Rattle.format.proofs.Formulas.{known_earlier}
 use Rattle.parts.specs.Parts.{Fielded, FieldPart}
 use Rattle.text.specs.Numbers.{number_as, NumberRead}
-use Rattle.text.specs.declared.numbers.Number.{Number}
+use Rattle.std.specs.Prelude.{Option as Answer, None, Some, Result, Ok, Err}
+use Rattle.std.proofs.lemmas.Option.{none-some, same_Some}
+use Rattle.refusals.specs.Refusals.{number_of as refusal_number}
+use Rattle.refusals.specs.declared.Refusal.{Refusal}
+use Rattle.refusals.specs.declared.Refusal.TheVariants.{FormulaAgain}
+use Rattle.refusals.proofs.OneNumber.{number_of-some}
 use Rattle.parts.specs.declared.Fields.{Fields}
 use Rattle.tables.specs.Records.{written, record_numbers}
 use Rattle.counts.specs.Counts.{counts_of, count_formula}
-use Rattle.known.specs.Entering.{entry_refusal, Appended, Enters, full, held, new, FormulaEntered}
+use Rattle.known.specs.Entering.{Entry, entry_refusal, Appended, Enters, full, held, new, FormulaEntered}
 use Rattle.counts.specs.declared.Counts.{Counts}
-use Rattle.known.specs.declared.Entry.{Entry}
+use Rattle.known.specs.declared.NoEntry.{NoEntry}
 use Rattle.tables.specs.declared.records.NodeRecord.{NodeRecord}
 use Rattle.counts.proofs.Counting.{counts_node}
 use Rattle.tables.proofs.Encoded.{nodes_length}
 use Rattle.known.proofs.Indexing.{length_entered}
 use Rattle.known.proofs.Knowing.{known_more}
-use Rattle.state.specs.State.{refused_by, passed_by, not_next, Memory, Exactly, Stored}
+use Rattle.state.specs.State.{passed_by, not_next, Memory, Exactly, Stored}
 use Rattle.state.specs.Lined.{OfKind, Lined}
-use Rattle.lines.specs.FormulaLines.{written_as, narrowed, ahead_in, FormulaNumbered, FormulaLined, with_formulas}
+use Rattle.lines.specs.FormulaLines.{written_of, written_as, narrowed, ahead_in, FormulaNumbered, FormulaLined, with_formulas}
 use Rattle.early.specs.Early.{numbered}
 use Rattle.state.specs.declared.State.{State}
-use Rattle.state.specs.declared.Stepped.{Stepped}
 use Rattle.lines.specs.declared.formula.Written.{Written}
 use Rattle.text.proofs.NumberLaws.{was_number, was_no_number}
+use Rattle.lines.specs.Stepping.{at_line}
 use Rattle.lines.proofs.LineLaws.{
   line_formula,
   line_no_formula,
@@ -58,36 +63,7 @@ use Rattle.state.proofs.Order.{order_same}
 
 -- ---- operands that are not earlier
 
-module _ (node : Written) (c : Counts) where
-  ahead_by : (a b d e : Bool) → eqb node.word 0 ≡ a → eqb node.word 1 ≡ b → eqb node.word 2 ≡ d → leb c.formulas node.first ≡ e
-      → ahead_in node c ≡ cond a false (cond b (leb c.atoms node.first) (cond d e (e || leb c.formulas node.second)))
-  unfolding ahead_in
-  ahead_by a b d e p q r s = cc
-
-  pub no_operand : node.word ≡ 0 → false ≡ ahead_in node c
-  no_operand h = sym (ahead_by true _ _ _ (eq-eqb _ _ h) refl refl refl)
-
-  module _ (operand : node.word ≡ 0 → ⊥) where
-    pub atom_ahead : node.word ≡ 1 → leb c.atoms node.first ≡ ahead_in node c
-    atom_ahead h = sym (ahead_by false true _ _ (ne_eqb _ _ operand) (eq-eqb _ _ h) refl refl)
-
-    module _ (no-atom : node.word ≡ 1 → ⊥) where
-      pub first_ahead : c.formulas ≤ node.first → true ≡ ahead_in node c
-      first_ahead h = sym (ahead_by false false _ true (ne_eqb _ _ operand) (ne_eqb _ _ no-atom) refl (le-leb _ _ h) ∙ either (eqb node.word 2))
-        where
-          either : (two : Bool) → cond two true true ≡ true
-          either true = refl
-          either false = refl
-
-      module _ (earlier : node.first < c.formulas) where
-        pub one_earlier : node.word ≡ 2 → false ≡ ahead_in node c
-        one_earlier h = sym (ahead_by false false true false (ne_eqb _ _ operand) (ne_eqb _ _ no-atom) (eq-eqb _ _ h) (lt-leb _ _ earlier))
-
-        pub second_ahead : (node.word ≡ 2 → ⊥) → leb c.formulas node.second ≡ ahead_in node c
-        second_ahead h = sym (ahead_by false false false false (ne_eqb _ _ operand) (ne_eqb _ _ no-atom) (ne_eqb _ _ h) (lt-leb _ _ earlier))
-
-ahead_of : (b : Body) (m : Node) → ahead_in (written_as (some m)) (counts_of b) ≡ refers_ahead b m
-unfolding ahead_in
+ahead_of : (b : Body) (m : Node) → ahead_in (written_of m) (counts_of b) ≡ refers_ahead b m
 ahead_of b Node.bot = refl
 ahead_of b (Node.atom k) = refl
 ahead_of b (Node.not i) = sym (or-false (leb (length b.nodes) i))
@@ -96,7 +72,7 @@ ahead_of b (Node.or i j) = ap (λ (t : Bool). leb (length b.nodes) i || t) (sym 
 ahead_of b (Node.imp i j) = ap (λ (t : Bool). leb (length b.nodes) i || t) (sym (or-false (leb (length b.nodes) j)))
 
 -- a formula whose operands are earlier fits a record of 16-bit numbers
-record_fits : (b : Body) → Held b → (m : Node) → refers_ahead b m ≡ false → record_numbers (narrowed (written_as (some m))) ≡ node_record m
+record_fits : (b : Body) → Held b → (m : Node) → refers_ahead b m ≡ false → record_numbers (narrowed (written_of m)) ≡ node_record m
 record_fits b limits m e = cases m e
   where
     same : (i : ℕ) → i < 65536 → i % 65536 ≡ i
@@ -109,7 +85,7 @@ record_fits b limits m e = cases m e
     both w i j e =
         ap₂ (λ (x y : ℕ). w ∷ x ∷ y ∷ []) (earlier (i ∷ j ∷ []) e i (Memᴰ.head refl)) (earlier (i ∷ j ∷ []) e j (Memᴰ.tail (Memᴰ.head refl)))
 
-    cases : (n : Node) → refers_ahead b n ≡ false → record_numbers (narrowed (written_as (some n))) ≡ node_record n
+    cases : (n : Node) → refers_ahead b n ≡ false → record_numbers (narrowed (written_of n)) ≡ node_record n
     cases Node.bot e = refl
     cases (Node.atom k) e = ap (λ (x : ℕ). 1 ∷ x ∷ absent ∷ []) (same k (omega (arith, leb-false b.atoms k e, limits.few_atoms)))
     cases (Node.not i) e = ap (λ (x : ℕ). 2 ∷ x ∷ absent ∷ []) (earlier (i ∷ []) e i (Memᴰ.head refl))
@@ -169,19 +145,19 @@ module _ (out room ahead again : Bool) (k : ℕ) (e : numbered k ≡ first ((4 w
 abbrev node_in : Bytes → Option Node
 node_in line = node_of (get_or (fields_of line) 2 []) (get_or (fields_of line) 3 []) (get_or (fields_of line) 4 [])
 
-well_written : (o : Option Node) → (written_as o).well ≡ true → (m : Node) × (o ≡ some m)
-well_written none e = absurd (true≢false (sym e))
-well_written (some m) e = (m, refl)
+well_written : (o : Option Node) (w : Written) → written_as o ≡ Some w → (m : Node) × (o ≡ some m) × (w ≡ written_of m)
+well_written none w e = absurd (none-some w e)
+well_written (some m) w e = (m, refl, sym (same_Some _ _ e))
 
-badly_written : (o : Option Node) → (written_as o).well ≡ false → o ≡ none
+badly_written : (o : Option Node) → written_as o ≡ None → o ≡ none
 badly_written none e = refl
-badly_written (some m) e = absurd (true≢false e)
+badly_written (some m) e = absurd (none-some (written_of m) (sym e))
 
 -- what an F line writes: a formula under its number
 pub record FormulaRead (line : Bytes) (n : ℕ) (node : Written) : Type 0 where
   pub formula : Node
   pub read : line_of line ≡ some (formula_line n formula)
-  pub written_as : node ≡ written_as (some formula)
+  pub written : node ≡ written_of formula
 
 module _ (line : Bytes) (fields : Fields) (fielded : Fielded line fields) (kind : OfKind "F" line) where
   pub formula_miscounted : (fields.count ≡ 5 → ⊥) → line_of line ≡ none
@@ -194,15 +170,15 @@ module _ (line : Bytes) (fields : Fields) (fielded : Fielded line fields) (kind 
         line_formula line kind (sym fielded.counted ∙ five)
         ∙ ap₂ (λ (x : Option ℕ) (y : Option Node). (λ n m. formula_line n m) <$> x <*> y) e k
 
-    module _ {first : Bytes} {own : Number} (at_first : FieldPart line fields 1 first) (number_read : NumberRead first own) where
+    module _ {first : Bytes} {own : Answer ℕ} (at_first : FieldPart line fields 1 first) (number_read : NumberRead first own) where
       own_is : own ≡ number_as (number_of (get_or (fields_of line) 1 []))
       own_is = number_read.answer ∙ ap (λ (x : Bytes). number_as (number_of x)) (at_first.field fielded (omega arith))
 
-      pub formula_unnumbered : own ≡ Number.Bad → line_of line ≡ none
+      pub formula_unnumbered : own ≡ None → line_of line ≡ none
       formula_unnumbered e = by_fields none (node_in line) (was_no_number _ (sym own_is ∙ e)) refl
 
-      module _ {n : ℕ} (is_number : own ≡ Number.Value n) {b c d : Bytes} (at_b : FieldPart line fields 2 b) (at_c : FieldPart line fields 3 c)
-          (at-d : FieldPart line fields 4 d) {node : Written} (is-node : node ≡ written_as (node_of b c d)) where
+      module _ {n : ℕ} (is_number : own ≡ Some n) {b c d : Bytes} (at_b : FieldPart line fields 2 b) (at_c : FieldPart line fields 3 c)
+          (at-d : FieldPart line fields 4 d) {node : Answer Written} (is-node : node ≡ written_as (node_of b c d)) where
         number_is : number_of (get_or (fields_of line) 1 []) ≡ some n
         number_is = was_number _ n (sym own_is ∙ is_number)
 
@@ -213,33 +189,29 @@ module _ (line : Bytes) (fields : Fields) (fielded : Fielded line fields) (kind 
             let two = at-d.field fielded (omega arith) in
             is-node ∙ cc
 
-        pub formula_unwritten : node.well ≡ false → line_of line ≡ none
-        formula_unwritten e = by_fields (some n) none number_is (badly_written (node_in line) (sym (ap (λ (x : Written). x.well) node_is) ∙ e))
+        pub formula_unwritten : node ≡ None → line_of line ≡ none
+        formula_unwritten e = by_fields (some n) none number_is (badly_written (node_in line) (sym node_is ∙ e))
 
-        pub formula_read : node.well ≡ true → FormulaRead line n node
-        formula_read e =
-            let found = well_written (node_in line) (sym (ap (λ (x : Written). x.well) node_is) ∙ e) in
-            record {
-              formula = found.0;
-              read = by_fields (some n) (some found.0) number_is found.1;
-              written_as = node_is ∙ ap written_as found.1;
-            }
+        pub formula_read : {w : Written} → node ≡ Some w → FormulaRead line n w
+        formula_read {w} e =
+            let found = well_written (node_in line) w (sym node_is ∙ e) in
+            record { formula = found.0; read = by_fields (some n) (some found.0) number_is found.1; written = found.2 }
 
 -- ---- what entering the formula came to
 
 module _ {formulas notes formulas' notes' : List ℕ} {count : ℕ} {key : NodeRecord} where
-  pub entered_held : {r : Entry} → Enters formulas notes count key formulas' notes' r → (i : ℕ) → r ≡ Entry.Held i
+  pub entered_held : {r : Entry} → Enters formulas notes count key formulas' notes' r → (i : ℕ) → r ≡ Err (NoEntry.Held i)
       → (formulas' ≡ formulas) × (notes' ≡ notes)
   entered_held (full most same-formulas same-notes) i e = let z : ◌≡◌ {A = ℕ} 0 1 = cc in absurd (omega arith)
   entered_held (held j few found same-formulas same-notes) i e = (same-formulas, same-notes)
   entered_held (new few found more) i e = let z : ◌≡◌ {A = ℕ} 0 1 = cc in absurd (omega arith)
 
-  pub entered_full : {r : Entry} → Enters formulas notes count key formulas' notes' r → r ≡ Entry.Full → most_formulas ≤ count
+  pub entered_full : {r : Entry} → Enters formulas notes count key formulas' notes' r → r ≡ Err NoEntry.Full → most_formulas ≤ count
   entered_full (full most same-formulas same-notes) e = most
   entered_full (held j few found same-formulas same-notes) e = let z : ◌≡◌ {A = ℕ} 0 1 = cc in absurd (omega arith)
   entered_full (new few found more) e = let z : ◌≡◌ {A = ℕ} 0 1 = cc in absurd (omega arith)
 
-  pub entered_new : {r : Entry} → Enters formulas notes count key formulas' notes' r → (i : ℕ) → r ≡ Entry.New i
+  pub entered_new : {r : Entry} → Enters formulas notes count key formulas' notes' r → (i : ℕ) → r ≡ Ok i
       → Appended formulas notes count key formulas' notes'
   entered_new (full most same-formulas same-notes) i e = let z : ◌≡◌ {A = ℕ} 0 1 = cc in absurd (omega arith)
   entered_new (held j few found same-formulas same-notes) i e = let z : ◌≡◌ {A = ℕ} 0 1 = cc in absurd (omega arith)
@@ -253,7 +225,7 @@ module _ {formulas notes formulas' notes' : List ℕ} {count : ℕ} {key : NodeR
 
 -- ---- the line, by a beginning that the tables hold
 
-module _ (line : Bytes) (number : ℕ) (s : State) (formulas notes : List ℕ) (n : ℕ) (node : Written) (k : ℕ) (numbers : FormulaNumbered s n node k)
+module _ (line : Bytes) (s : State) (formulas notes : List ℕ) (n : ℕ) (node : Written) (k : ℕ) (numbers : FormulaNumbered s n node k)
     (read : FormulaRead line n node) where
   abbrev m : Node
   m = read.formula
@@ -283,18 +255,21 @@ module _ (line : Bytes) (number : ℕ) (s : State) (formulas notes : List ℕ) (
         let order : not_next s.stage (rank in_formulas) s.counts.formulas n ≡ out =
         order_same f.stage in_formulas (length nodes) n stored.stage held_count in
         let room : leb most_formulas s.counts.formulas ≡ over = ap (leb most_formulas) held_count in
-        let earlier : ahead_in node s.counts ≡ ahead = ap₂ ahead_in read.written_as stored.counts ∙ ahead_of f.body m in
+        let earlier : ahead_in node s.counts ≡ ahead = ap₂ ahead_in read.written stored.counts ∙ ahead_of f.body m in
         numbers.tests ∙ cc
 
-    early : (k ≡ 0 → ⊥) → step f p line ≡ refused k p.line
-    early h = step_formula f p line n m read.read ∙ number_given k _ p.line (with_node f m) (numbered_early out over ahead again k tests_here h) h
+    early : (refusal : Refusal) → k ≡ refusal_number refusal → step f p line ≡ refused (refusal_number refusal) p.line
+    early refusal is =
+        let some_number : k ≡ 0 → ⊥ = λ z. number_of-some refusal (sym is ∙ z) in
+        step_formula f p line n m read.read
+        ∙ number_given refusal k _ p.line (with_node f m) (numbered_early out over ahead again k tests_here some_number) is
 
     module _ (z : k ≡ 0) (key : NodeRecord) (is_key : key ≡ narrowed node) where
       late : (ahead ≡ false) × (over ≡ false) × (first (formula_tests f n m) ≡ cond again (some 8) none)
       late = numbered_late out over ahead again k tests_here z
 
       is_record : record_numbers key ≡ node_record m
-      is_record = ap record_numbers (is_key ∙ ap narrowed read.written_as) ∙ record_fits f.body (good_held good.body) m late.0
+      is_record = ap record_numbers (is_key ∙ ap narrowed read.written) ∙ record_fits f.body (good_held good.body) m late.0
 
       -- the number of the line is the one that the answer stands for
       entry_tells : {formulas' notes' : List ℕ} {entry : Entry} → FormulaEntered formulas notes s.counts.formulas key formulas' notes' entry
@@ -323,7 +298,7 @@ module _ (line : Bytes) (number : ℕ) (s : State) (formulas notes : List ℕ) (
             fits : node_width * length nodes + length (node_record m) ≤ length formulas
             fits = omega (arith, ap length (sym is_record), room, stored.full.formulas)
 
-        after : Stored text (with_node f m) (passed_by s (count_formula s.counts) (rank in_formulas) number).state (with_formulas t formulas' notes')
+        after : Stored text (with_node f m) (passed_by s (count_formula s.counts) (rank in_formulas)) (with_formulas t formulas' notes')
         after =
             let whole = stored.full in
             record {
@@ -339,7 +314,6 @@ module _ (line : Bytes) (number : ℕ) (s : State) (formulas notes : List ℕ) (
               counts = ap count_formula stored.counts ∙ counts_node f.body m room;
               stage = refl;
               model = stored.model;
-              model_line = stored.model_line;
               claim = stored.claim;
               names_in = stored.names_in;
               names = stored.names;
@@ -353,8 +327,10 @@ module _ (line : Bytes) (number : ℕ) (s : State) (formulas notes : List ℕ) (
 
   -- ---- what the line comes to
 
-  pub formula_early : {r : Stepped} → (k ≡ 0 → ⊥) → r ≡ refused_by s k number → FormulaLined line number s r formulas notes formulas notes
-  formula_early h e text start t = line_refused k _ e (λ f p done good stored. early t p good stored h)
+  pub formula_early : {r : Result State Refusal} (refusal : Refusal) → k ≡ refusal_number refusal → r ≡ Err refusal
+      → FormulaLined line s r formulas notes formulas notes
+  formula_early refusal is e text start number t =
+      line_refused refusal _ (ap (at_line number) e) (λ f p done good stored. early t p good stored refusal is)
 
   module _ (z : k ≡ 0) {key : NodeRecord} (is_key : key ≡ narrowed node) {formulas' notes' : List ℕ} {entry : Entry}
       (entered : FormulaEntered formulas notes s.counts.formulas key formulas' notes' entry) where
@@ -362,35 +338,31 @@ module _ (line : Bytes) (number : ℕ) (s : State) (formulas notes : List ℕ) (
         → {o : Option ℕ} → entry_refusal entry ≡ o → step f p line ≡ settled o p.line (with_node f m)
     told {f} t p good stored e = entry_tells t p good stored z key is_key entered ∙ ap (λ (o : Option ℕ). settled o p.line (with_node f m)) e
 
-    pub formula_held : {r : Stepped} (i : ℕ) → entry ≡ Entry.Held i → r ≡ refused_by s 8 number → FormulaLined line number s r formulas notes formulas' notes'
-    formula_held {r} i is_held_lem e text start t =
+    pub formula_held : {r : Result State Refusal} (i : ℕ) → entry ≡ Err (NoEntry.Held i) → r ≡ Err FormulaAgain
+        → FormulaLined line s r formulas notes formulas' notes'
+    formula_held {r} i is_held_lem e text start number t =
         let same = entered_held entered.entry i is_held_lem in
-        subst (λ (u : Memory). Lined text start line number s r (with_formulas t formulas notes) u) (ap₂ (with_formulas t) (sym same.0) (sym same.1))
-        (line_refused 8 _ e (λ f p done good stored. told t p good stored (ap entry_refusal is_held_lem)))
+        subst (λ (u : Memory). Lined text start line number s (at_line number r) (with_formulas t formulas notes) u)
+        (ap₂ (with_formulas t) (sym same.0) (sym same.1))
+        (line_refused FormulaAgain _ (ap (at_line number) e) (λ f p done good stored. told t p good stored (ap entry_refusal is_held_lem)))
 
-    pub formula_full : {r : Stepped} → entry ≡ Entry.Full → FormulaLined line number s r formulas notes formulas' notes'
-    formula_full is-full =
+    pub formula_full : (r : Result State Refusal) → entry ≡ Err NoEntry.Full → FormulaLined line s r formulas notes formulas' notes'
+    formula_full r is-full =
         let out = not_next s.stage (rank in_formulas) s.counts.formulas n in
         let ahead-here = ahead_in node s.counts in
         let few = leb-false most_formulas s.counts.formulas (numbered_late out _ ahead-here false k numbers.tests z).1 in
         absurd (omega (arith, few, entered_full entered.entry is-full))
 
-    pub formula_new : {r : Stepped} {counts : Counts} (i : ℕ) → entry ≡ Entry.New i → counts ≡ count_formula s.counts
-        → r ≡ passed_by s counts (rank in_formulas) number
-        → FormulaLined line number s r formulas notes formulas' notes'
-    formula_new {r} i is-new more-counts e text start t =
+    pub formula_new : {r : Result State Refusal} (i : ℕ) → entry ≡ Ok i → r ≡ Ok (passed_by s (count_formula s.counts) (rank in_formulas))
+        → FormulaLined line s r formulas notes formulas' notes'
+    formula_new {r} i is-new e text start number t =
         let more = entered_new entered.entry i is-new in
-        let zero_number : r.number ≡ 0 = ap (λ (x : Stepped). x.number) e in
-        let by-counts = ap (λ (x : Counts). (passed_by s x (rank in_formulas) number).state) more-counts in
-        let state_is : (passed_by s (count_formula s.counts) (rank in_formulas) number).state ≡ r.state = sym (ap (λ (x : Stepped). x.state) e ∙ by-counts) in
+        let passed = ap (at_line number) e in
         record {
           steps =
               λ f p done good stored size at_start at-line.
-              steps_next r (with_node f m) (told t p good stored (ap entry_refusal is-new)) zero_number
-              (subst (λ (x : State). Stored text (with_node f m) x (with_formulas t formulas' notes')) state_is
-              (after t p good stored z key is_key more));
-          own_line = λ none-refused. ap (λ (x : Stepped). x.line) e;
+              steps_next _ (with_node f m) (told t p good stored (ap entry_refusal is-new)) passed (after t p good stored z key is_key more);
           keeps =
-              keeps_passed zero_number
+              keeps_passed passed
               (record { names = refl; formulas = formulas_length more; notes = notes_length more; rows = refl; left = refl; right = refl });
         }

@@ -2,8 +2,8 @@
 -- that is refused comes to and one that passes, and what the tables hold.
 use Prim.Native.Nat.{ℕ, zero, suc, ◌+◌, ◌%◌, ◌≤◌}
 use native.Mathlib.Omega.{arith}
-use mathlib.Core.Path.{◌≡◌, refl, sym, ap, ap₂, subst, ◌∙◌}
-use mathlib.Core.Bool.{Bool, true, false, cond, true≢false, false≢true}
+use mathlib.Core.Path.{◌≡◌, refl, sym, ap, ap₂, ◌∙◌}
+use mathlib.Core.Bool.{Bool, true, false, cond}
 use mathlib.Core.List.Memᴰ
 use mathlib.Core.List.{List, [], ◌∷◌, ◌++◌}
 use mathlib.Core.Option.{Option, none, some}
@@ -36,18 +36,23 @@ use Rattle.format.specs.Tables.{padded, join_all, most_on_side}
 use Rattle.format.specs.Judged.{Place, Outcome, next, refused, settled, step}
 use Rattle.format.specs.Good.{Good}
 use Rattle.format.proofs.Stepping.{step_bad}
-use Rattle.text.specs.Lists.{laid_over, listed_as}
-use Rattle.parts.specs.Refusals.{bad_line}
+use Rattle.text.specs.Lists.{laid_over, listed_of, listed_as}
 use Rattle.text.specs.declared.lists.Listed.{Listed}
 use Rattle.tables.specs.Records.{written}
 use Rattle.tables.specs.Holding.{HoldsNodes, HoldsRows}
 use Rattle.tables.proofs.Encoded.{begins_padded, put_encoded}
 use Rattle.early.specs.Early.{numbered}
 use Rattle.rows.specs.Judgement.{Ground}
-use Rattle.state.specs.State.{refused_by, Memory, SameLengths, Exactly, Stored, Steps, Keeps}
+use Rattle.std.specs.Prelude.{Option as Answer, None, Some, Ok, Err}
+use Rattle.std.proofs.lemmas.Option.{none-some, same_Some}
+use Rattle.refusals.specs.Refusals.{number_of as refusal_number}
+use Rattle.refusals.specs.declared.Refusal.{Refusal}
+use Rattle.refusals.specs.declared.Refusal.TheVariants.{BadLine}
+use Rattle.refusals.proofs.OneNumber.{number_of-some}
+use Rattle.state.specs.State.{Stepped, refused_by, Memory, SameLengths, Exactly, Stored, Steps, Keeps}
 use Rattle.state.specs.Lined.{OfKind, Lined}
 use Rattle.state.specs.declared.State.{State}
-use Rattle.state.specs.declared.Stepped.{Stepped}
+use Rattle.state.specs.declared.Refused.{Refused}
 use Rattle.drafts.specs.Drafts.{Narrow, Laid}
 
 -- ---- the fields of a line
@@ -181,14 +186,14 @@ module _ (line : Bytes) where
 
 -- ---- what the readers' answers tell
 
-pub not_listed : (o : Option (List ℕ)) {listed : Listed} → listed ≡ listed_as o → listed.well ≡ false → o ≡ none
+pub not_listed : (o : Option (List ℕ)) {r : Answer Listed} → r ≡ listed_as o → r ≡ None → o ≡ none
 not_listed none e h = refl
-not_listed (some xs) e h = absurd (true≢false (sym (ap (λ (a : Listed). a.well) e) ∙ h))
+not_listed (some xs) e h = absurd (none-some (listed_of xs) (sym h ∙ e))
 
-pub is_listed : (o : Option (List ℕ)) {listed : Listed} → listed ≡ listed_as o → listed.well ≡ true
-    → (xs : List ℕ) × (o ≡ some xs) × (listed ≡ listed_as (some xs))
-is_listed none e h = absurd (false≢true (sym (ap (λ (a : Listed). a.well) e) ∙ h))
-is_listed (some xs) e h = (xs, refl, e)
+pub is_listed : (o : Option (List ℕ)) {r : Answer Listed} {listed : Listed} → r ≡ listed_as o → r ≡ Some listed
+    → (xs : List ℕ) × (o ≡ some xs) × (listed ≡ listed_of xs)
+is_listed none {listed = listed} e h = absurd (none-some listed (sym e ∙ h))
+is_listed (some xs) e h = (xs, refl, same_Some _ _ (sym h ∙ e))
 
 -- a list laid over a table long enough is its first part, where its numbers fit
 laid_part : (xs was : List ℕ) → Narrow xs → length xs ≤ length was → take (length xs) (laid_over xs was) ≡ xs
@@ -199,7 +204,7 @@ laid_part (x ∷ xs) (o ∷ was) narrow room =
     let small : x % 65536 ≡ x = omega (arith, narrow x (Memᴰ.head refl)) in
     ap₂ (λ (y : ℕ) (ys : List ℕ). y ∷ ys) small (laid_part xs was (λ y m. narrow y (Memᴰ.tail m)) (omega arith))
 
-pub list_laid : {xs table : List ℕ} {listed : Listed} (was : List ℕ) → listed ≡ listed_as (some xs) → table ≡ laid_over xs was → most_on_side ≤ length was
+pub list_laid : {xs table : List ℕ} {listed : Listed} (was : List ℕ) → listed ≡ listed_of xs → table ≡ laid_over xs was → most_on_side ≤ length was
     → Laid xs listed table
 list_laid {xs} {listed = listed} was answer stored room =
     record { answer = answer; front = λ short narrow. ap₂ take (exact short) stored ∙ laid_part xs was narrow (omega arith) }
@@ -209,9 +214,14 @@ list_laid {xs} {listed = listed} was answer stored room =
 
 -- ---- the number that a line earns
 
-pub number_given : (k : ℕ) (o : Option ℕ) (line : ℕ) (f : File) → numbered k ≡ o → (k ≡ 0 → ⊥) → settled o line f ≡ refused k line
-number_given zero o line f e n = absurd (n refl)
-number_given (suc k) o line f e n = ap (λ (x : Option ℕ). settled x line f) (sym e)
+pub number_given : (refusal : Refusal) (k : ℕ) (o : Option ℕ) (line : ℕ) (f : File) → numbered k ≡ o → k ≡ refusal_number refusal
+    → settled o line f ≡ refused (refusal_number refusal) line
+number_given refusal k o line f e is =
+    ap (λ (x : Option ℕ). settled x line f) (sym e ∙ ap numbered is) ∙ told (refusal_number refusal) (number_of-some refusal)
+  where
+    told : (n : ℕ) → (n ≡ 0 → ⊥) → settled (numbered n) line f ≡ refused n line
+    told zero h = absurd (h refl)
+    told (suc n) h = refl
 
 pub none_given : (k : ℕ) (o : Option ℕ) → numbered k ≡ o → k ≡ 0 → o ≡ none
 none_given zero o e z = sym e
@@ -222,39 +232,40 @@ none_given (suc k) o e z = absurd (omega arith)
 pub same_lengths : (t : Memory) → SameLengths t t
 same_lengths t = record { names = refl; formulas = refl; notes = refl; rows = refl; left = refl; right = refl }
 
-module _ {s : State} {r : Stepped} where
-  pub keeps_refused : {n line : ℕ} (t : Memory) → r ≡ refused_by s n line → Keeps s r t t
-  keeps_refused t e = record { kept = λ h. (refl, ap (λ (x : Stepped). x.state) e); lengths = same_lengths t }
+module _ {r : Stepped} where
+  pub keeps_refused : {refusal : Refusal} {line : ℕ} (t : Memory) → r ≡ refused_by refusal line → Keeps r t t
+  keeps_refused t e = record { kept = λ x h. refl; lengths = same_lengths t }
 
-  pub keeps_passed : {t u : Memory} → r.number ≡ 0 → SameLengths t u → Keeps s r t u
-  keeps_passed e same = record { kept = λ h. absurd (h e); lengths = same }
+  pub keeps_passed : {s : State} {t u : Memory} → r ≡ Ok s → SameLengths t u → Keeps r t u
+  keeps_passed {s} e same = record { kept = λ x h. absurd (ok_err s x (sym e ∙ h)); lengths = same }
+    where
+      ok_err : (s : State) (x : Refused) → ◌≡◌ {A = Stepped} (Ok s) (Err x) → ⊥
+      ok_err s x k = let z : ◌≡◌ {A = ℕ} 0 1 = cc in omega arith
 
 -- ---- what a line comes to
 
-pub steps_refused : (text : Bytes) {o : Outcome File} {s : State} {r : Stepped} (t : Memory) (n line : ℕ) {l : ℕ} → o ≡ refused n l → l ≡ line
-    → r ≡ refused_by s n line → Steps text o r t
-steps_refused text {r = r} t n line e at given =
-    subst (λ (x : Outcome File). Steps text x r t) (sym e) (ap (λ (x : Stepped). x.number) given, ap (λ (x : Stepped). x.line) given ∙ sym at)
+pub steps_refused : (text : Bytes) {o : Outcome File} {r : Stepped} (t : Memory) (refusal : Refusal) (line : ℕ) {l : ℕ}
+    → o ≡ refused (refusal_number refusal) l → l ≡ line → r ≡ refused_by refusal line → Steps text o r t
+steps_refused text t refusal line e at given = rw (given, e) (refl, sym at)
 
-pub steps_next : {text : Bytes} {o : Outcome File} (r : Stepped) {t : Memory} (f : File) → o ≡ next f → r.number ≡ 0 → Stored text f r.state t
+pub steps_next : {text : Bytes} {o : Outcome File} (r : Stepped) {s : State} {t : Memory} (f : File) → o ≡ next f → r ≡ Ok s → Stored text f s t
     → Steps text o r t
-steps_next {text} r {t} f e zero_number stored = subst (λ (x : Outcome File). Steps text x r t) (sym e) (zero_number, stored)
+steps_next {text} r {s} {t} f e passed stored = rw (passed, e) stored
 
 module _ {text : Bytes} {start : ℕ} {line : Bytes} {number : ℕ} {s : State} {r : Stepped} where
-  -- a line that every accepted beginning refuses with a number
-  pub line_refused : (n : ℕ) (t : Memory) → r ≡ refused_by s n number
-      → ((f : File) (p : Place) (done : List Bytes) → Good done f → Stored text f s t → step f p line ≡ refused n p.line)
+  -- a line that every accepted beginning refuses
+  pub line_refused : (refusal : Refusal) (t : Memory) → r ≡ refused_by refusal number
+      → ((f : File) (p : Place) (done : List Bytes) → Good done f → Stored text f s t → step f p line ≡ refused (refusal_number refusal) p.line)
       → Lined text start line number s r t t
-  line_refused n t given by =
+  line_refused refusal t given by =
       record {
-        steps = λ f p done good stored size placed at. steps_refused text t n number (by f p done good stored) at given;
-        own_line = λ z. ap (λ (x : Stepped). x.line) given;
+        steps = λ f p done good stored size placed at. steps_refused text t refusal number (by f p done good stored) at given;
         keeps = keeps_refused t given;
       }
 
   -- a line that is badly written
-  pub line_bad : (t : Memory) → line_of line ≡ none → r ≡ refused_by s bad_line number → Lined text start line number s r t t
-  line_bad t e given = line_refused bad_line t given (λ f p done good stored. step_bad f p line e)
+  pub line_bad : (t : Memory) → line_of line ≡ none → r ≡ refused_by BadLine number → Lined text start line number s r t t
+  line_bad t e given = line_refused BadLine t given (λ f p done good stored. step_bad f p line e)
 
 -- ---- numbers written into a table
 

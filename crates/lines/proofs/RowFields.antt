@@ -1,89 +1,69 @@
 -- N lines: their six fields together, and the draft of a row.
 use Prim.Native.Nat.{ℕ, zero, suc, ◌%◌, ◌≤◌, ◌<◌}
 use native.Mathlib.Omega.{arith}
-use mathlib.Core.Path.{◌≡◌, refl, sym, ap, ap₂, subst, ◌∙◌}
-use mathlib.Core.Bool.{Bool, true, false, not, ◌&&◌, true≢false, false≢true}
+use mathlib.Core.Path.{◌≡◌, refl, sym, ap, subst, ◌∙◌}
 use mathlib.Core.List.Memᴰ
 use mathlib.Core.List.{List, [], ◌∷◌}
 use mathlib.Core.Option.{Option, none, some}
-use lib.Dec.{eqb, lit<}
+use lib.Dec.{lit<}
 use lib.ListN.{length, get_or}
-use borrow.Author.Tests.{ne_eqb}
-use Rattle.elk.specs.Rules.{Rule, code_of}
+use Rattle.elk.specs.Rules.{Rule}
 use Rattle.format.specs.Text.{Bytes, number_of, principal_of, premise_list_of, side_of}
 use Rattle.format.specs.File.{Row}
 use Rattle.format.specs.Line.{row_line, rule_of, make_row, line_of}
 use Rattle.format.specs.Tables.{absent, most_on_side}
-use Rattle.rules.proofs.RuleNumbers.{code_below}
-use Rattle.text.specs.Numbers.{principal_as}
-use Rattle.text.specs.Lists.{listed_as, laid_over}
+use Rattle.text.specs.Lists.{laid_over}
 use Rattle.parts.specs.Parts.{Fielded, field_by}
 use Rattle.parts.specs.declared.Fields.{Fields}
 use Rattle.parts.proofs.PartLaws.{field_found}
-use Rattle.keywords.specs.Words.{no_rule}
+use Rattle.std.specs.Prelude.{Option as Answer, None, Some}
+use Rattle.std.proofs.lemmas.Option.{none-some, same_Some}
 use Rattle.drafts.specs.declared.Draft.{Draft}
 use Rattle.state.specs.Lined.{OfKind}
 use Rattle.lines.proofs.LineLaws.{row_written, line_row, list_laid}
-use Rattle.drafts.specs.Drafts.{Narrow, Drafted, read_as, row_read, RowInto, is_bad, well_of, draft_of, RowLaid}
+use Rattle.drafts.specs.Drafts.{Narrow, Drafted, read_as, row_read, RowInto, draft_of, RowLaid}
 use Rattle.drafts.specs.declared.RowRead.{RowRead}
 
 -- ---- the fields
 
 -- the row that well written fields write
-pub record Written (number : Option ℕ) (rule : Option Rule) (principal : Option (Option ℕ)) (premises left right : Option (List ℕ)) : Type 0 where
+pub record Written (number : Option ℕ) (rule : Option Rule) (principal : Option (Option ℕ)) (premises left right : Option (List ℕ)) (row : RowRead) : Type 0 where
   pub own : ℕ
-  pub row : Row
-  pub line : row_written number rule principal premises left right ≡ some (row_line own row)
-  pub read : read_as number rule principal premises left right ≡ row_read own row
-  pub premises_listed : premises ≡ some row.premises
-  pub left_listed : left ≡ some row.left
-  pub right_listed : right ≡ some row.right
+  pub its : Row
+  pub line : row_written number rule principal premises left right ≡ some (row_line own its)
+  pub read : row ≡ row_read own its
+  pub premises_listed : premises ≡ some its.premises
+  pub left_listed : left ≡ some its.left
+  pub right_listed : right ≡ some its.right
 
-not_bad : (o : Option ℕ) → is_bad (principal_as (some o)) ≡ false
-not_bad none = refl
-not_bad (some i) = refl
-
-abbrev lists_well : Option (List ℕ) → Option (List ℕ) → Option (List ℕ) → Bool
-lists_well premises left right = (listed_as premises).well && (listed_as left).well && (listed_as right).well
-
-module _ (n : ℕ) (s : Rule) (premises left right : Option (List ℕ)) where
-  no_rule_lem : eqb (code_of s) no_rule ≡ false
-  no_rule_lem = ne_eqb (code_of s) no_rule (λ e. omega (arith, code_below s))
-
-  well_without : well_of (read_as (some n) (some s) none premises left right) ≡ false
-  well_without = ap (λ (t : Bool). not t && false && (listed_as premises).well && (listed_as left).well && (listed_as right).well) no_rule_lem
-
-  well_with : (o : Option ℕ) → well_of (read_as (some n) (some s) (some o) premises left right) ≡ lists_well premises left right
-  well_with o = ap₂ (λ (t u : Bool). not t && not u && (listed_as premises).well && (listed_as left).well && (listed_as right).well) no_rule_lem (not_bad o)
-
-module _ (n : ℕ) (s : Rule) (o : Option ℕ) where
-  lists_written : (premises left right : Option (List ℕ)) → lists_well premises left right ≡ true → Written (some n) (some s) (some o) premises left right
-  lists_written none left right h = absurd (false≢true h)
-  lists_written (some ps) none right h = absurd (false≢true h)
-  lists_written (some ps) (some ls) none h = absurd (false≢true h)
-  lists_written (some ps) (some ls) (some rs) h =
-      record { own = n; row = make_row s o ps ls rs; line = refl; read = refl; premises_listed = refl; left_listed = refl; right_listed = refl }
-
-  lists_bad : (premises left right : Option (List ℕ)) → lists_well premises left right ≡ false
-      → row_written (some n) (some s) (some o) premises left right ≡ none
-  lists_bad none left right h = refl
-  lists_bad (some ps) none right h = refl
-  lists_bad (some ps) (some ls) none h = refl
-  lists_bad (some ps) (some ls) (some rs) h = absurd (true≢false h)
-
-well_written : (number : Option ℕ) (rule : Option Rule) (principal : Option (Option ℕ)) (premises left right : Option (List ℕ))
-    → well_of (read_as number rule principal premises left right) ≡ true → Written number rule principal premises left right
-well_written none rule principal premises left right h = absurd (false≢true h)
-well_written (some n) none principal premises left right h = absurd (false≢true h)
-well_written (some n) (some s) none premises left right h = absurd (false≢true (sym (well_without n s premises left right) ∙ h))
-well_written (some n) (some s) (some o) premises left right h = lists_written n s o premises left right (sym (well_with n s premises left right o) ∙ h)
+well_written : (number : Option ℕ) (rule : Option Rule) (principal : Option (Option ℕ)) (premises left right : Option (List ℕ)) (row : RowRead)
+    → read_as number rule principal premises left right ≡ Some row → Written number rule principal premises left right row
+well_written none rule principal premises left right row h = absurd (none-some row h)
+well_written (some n) none principal premises left right row h = absurd (none-some row h)
+well_written (some n) (some s) none premises left right row h = absurd (none-some row h)
+well_written (some n) (some s) (some o) none left right row h = absurd (none-some row h)
+well_written (some n) (some s) (some o) (some ps) none right row h = absurd (none-some row h)
+well_written (some n) (some s) (some o) (some ps) (some ls) none row h = absurd (none-some row h)
+well_written (some n) (some s) (some o) (some ps) (some ls) (some rs) row h =
+    record {
+      own = n;
+      its = make_row s o ps ls rs;
+      line = refl;
+      read = sym (same_Some _ _ h);
+      premises_listed = refl;
+      left_listed = refl;
+      right_listed = refl;
+    }
 
 badly_written : (number : Option ℕ) (rule : Option Rule) (principal : Option (Option ℕ)) (premises left right : Option (List ℕ))
-    → well_of (read_as number rule principal premises left right) ≡ false → row_written number rule principal premises left right ≡ none
+    → read_as number rule principal premises left right ≡ None → row_written number rule principal premises left right ≡ none
 badly_written none rule principal premises left right h = refl
 badly_written (some n) none principal premises left right h = refl
 badly_written (some n) (some s) none premises left right h = refl
-badly_written (some n) (some s) (some o) premises left right h = lists_bad n s o premises left right (sym (well_with n s premises left right o) ∙ h)
+badly_written (some n) (some s) (some o) none left right h = refl
+badly_written (some n) (some s) (some o) (some ps) none right h = refl
+badly_written (some n) (some s) (some o) (some ps) (some ls) none h = refl
+badly_written (some n) (some s) (some o) (some ps) (some ls) (some rs) h = absurd (none-some (row_read n (make_row s o ps ls rs)) (sym h))
 
 -- ---- lists as they were stored
 
@@ -98,7 +78,7 @@ laid_at_lem (x ∷ xs) (o ∷ was) (suc i) narrow room = laid_at_lem xs was i (�
 -- ---- a line whose kind is N
 
 module _ (line : Bytes) (kind : OfKind "N" line) (fields : Fields) (fielded : Fielded line fields) (counted : fields.count ≡ 7)
-    {above l r above' l' r' : List ℕ} {row : RowRead} (i : RowInto (field_by line fields) above l r above' l' r' row) where
+    {above l r above' l' r' : List ℕ} {answer : Answer RowRead} (i : RowInto (field_by line fields) above l r above' l' r' answer) where
   abbrev own : Option ℕ
   own = number_of (field_by line fields 1)
 
@@ -124,22 +104,22 @@ module _ (line : Bytes) (kind : OfKind "N" line) (fields : Fields) (fielded : Fi
       let at-6 = field_found line fields 6 fielded (lit< tt) in
       line_row line kind (sym fielded.counted ∙ counted) ∙ cc
 
-  pub row_unread : well_of row ≡ false → line_of line ≡ none
-  row_unread h = is_row ∙ badly_written own rule principal premises (side_at_lem 5) (side_at_lem 6) (ap well_of (sym i.answer) ∙ h)
+  pub row_unread : answer ≡ None → line_of line ≡ none
+  row_unread h = is_row ∙ badly_written own rule principal premises (side_at_lem 5) (side_at_lem 6) (sym i.answer ∙ h)
 
-  pub row_found : well_of row ≡ true → above ≡ absent ∷ absent ∷ [] → most_on_side ≤ length l → most_on_side ≤ length r
+  pub row_found : {row : RowRead} → answer ≡ Some row → above ≡ absent ∷ absent ∷ [] → most_on_side ≤ length l → most_on_side ≤ length r
       → (n : ℕ) × (q : Row) × (line_of line ≡ some (row_line n q)) × RowLaid n q row above' l' r'
-  row_found h lent left_room right_room =
-      let w = well_written own rule principal premises (side_at_lem 5) (side_at_lem 6) (ap well_of (sym i.answer) ∙ h) in
-      let read : row ≡ row_read w.own w.row = i.answer ∙ w.read in
-      let laid : RowLaid w.own w.row row above' l' r' =
+  row_found {row} h lent left_room right_room =
+      let w = well_written own rule principal premises (side_at_lem 5) (side_at_lem 6) row (sym i.answer ∙ h) in
+      let read : row ≡ row_read w.own w.its = w.read in
+      let laid : RowLaid w.own w.its row above' l' r' =
       record {
         read = read;
-        premises = i.premises_listed.stored w.row.premises w.premises_listed ∙ ap (laid_over w.row.premises) lent;
-        left_laid = list_laid l (ap (λ (z : RowRead). z.left) read) (i.left_listed.stored w.row.left w.left_listed) left_room;
-        right_laid = list_laid r (ap (λ (z : RowRead). z.right) read) (i.right_listed.stored w.row.right w.right_listed) right_room;
+        premises = i.premises_listed.stored w.its.premises w.premises_listed ∙ ap (laid_over w.its.premises) lent;
+        left_laid = list_laid l (ap (λ (z : RowRead). z.left) read) (i.left_listed.stored w.its.left w.left_listed) left_room;
+        right_laid = list_laid r (ap (λ (z : RowRead). z.right) read) (i.right_listed.stored w.its.right w.right_listed) right_room;
       } in
-      (w.own, w.row, is_row ∙ w.line, laid)
+      (w.own, w.its, is_row ∙ w.line, laid)
 
 -- ---- the draft of a row
 
@@ -151,7 +131,7 @@ pub row_drafted : {n : ℕ} {q : Row} {row : RowRead} {above l r : List ℕ} →
 row_drafted {n} {q} {row} {above} {l} {r} h {d} {one} {two} is_one is_two e =
     subst (λ (z : Draft). Drafted q z l r) (sym e) (
     record {
-      rule = ap (λ (z : RowRead). z.rule % 65536) h.read ∙ small_mod (code_of q.rule) (omega (arith, code_below q.rule));
+      rule = ap (λ (z : RowRead). z.rule) h.read;
       principal = ap (λ (z : RowRead). z.principal) h.read;
       premises = ap (λ (z : RowRead). z.premises) h.read;
       first_premise = λ narrow. is_one ∙ ap (λ (z : List ℕ). get_or z 0 0) h.premises ∙ laid_at_lem q.premises (absent ∷ absent ∷ []) 0 narrow (omega arith);

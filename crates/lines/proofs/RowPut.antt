@@ -18,7 +18,7 @@ use Rattle.format.proofs.Booleans.{any_false}
 use Rattle.format.proofs.Tested.{passes, PassedRow, passed_row}
 use Rattle.format.proofs.GoodBodies.{Held, good_held}
 use Rattle.format.proofs.Formulas.{known_earlier}
-use Rattle.text.specs.Numbers.{principal_as}
+use Rattle.text.specs.Numbers.{number_as}
 use Rattle.text.specs.declared.lists.Listed.{Listed}
 use Rattle.counts.specs.Counts.{counts_of, full_for, count_row}
 use Rattle.counts.specs.declared.Counts.{Counts}
@@ -83,7 +83,7 @@ module _ {b : Body} (good : GoodBody b) {c : Counts} (is-counts : c ≡ counts_o
   right_held : c.right ≡ length (right_pool b.rows)
   right_held = ap (λ (z : Counts). z.right) is-counts
 
-  principal_same : (o : Option ℕ) → unknown_formula b (listed o) ≡ false → principal_number (principal_as (some o)) ≡ or_absent o
+  principal_same : (o : Option ℕ) → unknown_formula b (listed o) ≡ false → principal_number (number_as o) ≡ or_absent o
   principal_same none e = refl
   principal_same (some i) e = small_mod i (omega (arith, known_earlier b (i ∷ []) e i (Memᴰ.head refl), held.few_nodes))
 

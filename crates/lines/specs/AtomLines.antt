@@ -1,5 +1,5 @@
 -- A lines: the number that an atom earns, and what the line comes to. Only the names can change.
-use Rattle.std.specs.Prelude.{ℕ, ◌<◌, ◌≡◌, true, List, length}
+use Rattle.std.specs.Prelude.{ℕ, ◌<◌, ◌≡◌, true, List, length, Result}
 use Rattle.equilibrium.specs.Meaning.{◌∈◌}
 use Rattle.format.specs.Text.{Bytes, is_name}
 use Rattle.format.specs.File.{Name, File}
@@ -11,7 +11,8 @@ use Rattle.early.specs.Early.{numbered}
 use Rattle.state.specs.State.{Memory}
 use Rattle.state.specs.Lined.{Lined}
 use Rattle.state.specs.declared.State.{State}
-use Rattle.state.specs.declared.Stepped.{Stepped}
+use Rattle.refusals.specs.declared.Refusal.{Refusal}
+use Rattle.lines.specs.Stepping.{at_line}
 
 -- the first of 4, 5 and 6 that applies
 pub record AtomNumbered (text : Bytes) (names : List ℕ) (s : State) (n : ℕ) (name : Bytes) (k : ℕ) : Type 0 where
@@ -25,5 +26,6 @@ pub record AtomNumbered (text : Bytes) (names : List ℕ) (s : State) (n : ℕ) 
 abbrev pub with_names : Memory → List ℕ → Memory
 with_names t names = record { names = names; formulas = t.formulas; notes = t.notes; rows = t.rows; left = t.left; right = t.right }
 
-abbrev pub AtomLined : Bytes → ℕ → Bytes → ℕ → State → Stepped → List ℕ → List ℕ → Type 0
-AtomLined text start line number s r names names' = (t : Memory) → Lined text start line number s r (with_names t names) (with_names t names')
+abbrev pub AtomLined : Bytes → ℕ → Bytes → State → Result State Refusal → List ℕ → List ℕ → Type 0
+AtomLined text start line s r names names' =
+    (number : ℕ) (t : Memory) → Lined text start line number s (at_line number r) (with_names t names) (with_names t names')

@@ -1,39 +1,48 @@
 // The C line.
 ghost use Rattle.std.specs.Prelude.{◌≡◌};
 ghost use Rattle.format.specs.Tests.{first};
+ghost use Rattle.refusals.specs.Refusals.{outcome};
 ghost use Rattle.early.specs.Early.{numbered};
 ghost use Rattle.parts.specs.Parts.{Fielded};
 ghost use Rattle.state.specs.Lined.{OfKind};
-ghost use Rattle.lines.specs.ClaimLines.{claim_of, ClaimSettled, ClaimLined};
+ghost use Rattle.lines.specs.ClaimLines.{claim_of, model_before, ClaimSettled, ClaimLined};
 
 use counts::limits::MOST_ON_SIDE;
 use early::{bad_sides, past};
 use models::model_number;
-use parts::refusals::BAD_LINE;
 use parts::{Fields, field};
+use refusals::Refusal;
 use rows::last::last_is;
-use state::{CLAIMED, MODELLED, State, Stepped, out_of_turn};
+use sides::sequents::Sequent;
+use state::{CLAIMED, MODELLED, Refused, State, out_of_turn};
 use tables::records::front;
 use text::lists::{Listed, read_side};
 
-// The first of the numbers 4, 7 and 9 that applies to a claim, 0 if none does.
-fn claim_number(antecedent: Listed, succedent: Listed, state: State) -> u32
-    ensures { numbered result ≡ first (claim_of antecedent succedent state) }
+// The first of the numbers 4, 7 and 9 that applies to a claim.
+fn claim_number(antecedent: Listed, succedent: Listed, state: State) -> Result<(), Refusal>
+    ensures { numbered (outcome result) ≡ first (claim_of antecedent succedent state) }
 {
     let counts = state.counts;
     if out_of_turn(state.stage, CLAIMED) {
-        return 4;
+        return Err(Refusal::OutOfOrder);
     }
-    if past(antecedent, counts.formulas) {
-        return 7;
-    }
-    if past(succedent, counts.formulas) {
-        return 7;
+    if past(antecedent, counts.formulas) || past(succedent, counts.formulas) {
+        return Err(Refusal::NoSuchItem);
     }
     if bad_sides(antecedent, succedent) {
-        return 9;
+        return Err(Refusal::BadSide);
     }
-    0
+    Ok(())
+}
+
+// The atoms of the M line, if it was the last line.
+fn model_before(state: State) -> Option<u64>
+    ensures { result ≡ model_before state }
+{
+    match state.model {
+        Some(model) if state.stage == MODELLED => Some(model.atoms),
+        _ => None,
+    }
 }
 
 // A claim that is well written, by the tables that its lists were read into.
@@ -48,26 +57,34 @@ fn settle_claim<'a>(
     left: &'a [u16],
     right: &'a [u16],
     state: State,
-) -> Stepped
+) -> Result<State, Refused>
     ensures { ClaimSettled antecedent succedent number l.now r.now
         formulas.now rows.now left.now right.now state result }
 {
-    let refusal = claim_number(antecedent, succedent, state);
-    if refusal != 0 {
-        return state.refused(refusal, number);
+    if let Err(refusal) = claim_number(antecedent, succedent, state) {
+        return Err(Refused {
+            refusal,
+            line: number,
+        });
     }
-    let counts = state.counts;
-    let left_side = front(l, antecedent.count);
-    let right_side = front(r, succedent.count);
-    if !last_is(rows, left, right, counts.rows, left_side, right_side) {
-        return state.refused(12, number);
+    let claim = Sequent {
+        left: front(l, antecedent.count),
+        right: front(r, succedent.count),
+    };
+    if !last_is(rows, left, right, state.counts.rows, claim) {
+        return Err(Refused {
+            refusal: Refusal::ClaimDiffers,
+            line: number,
+        });
     }
-    let given = state.stage == MODELLED;
-    let unconfirmed = model_number(formulas, left_side, right_side, given, state.model);
-    if unconfirmed != 0 {
-        return state.refused(unconfirmed, state.model_report(number));
+    let model = model_before(state);
+    if let Err(refusal) = model_number(formulas, claim.left, claim.right, model) {
+        return Err(Refused {
+            refusal,
+            line: state.model_report(number),
+        });
     }
-    state.claimed(number)
+    Ok(state.claimed(number))
 }
 
 // A C line, taken into its fields; it is line `number`.
@@ -80,24 +97,28 @@ pub(crate) fn claim_line<'a>(
     left: &'a [u16],
     right: &'a [u16],
     state: State,
-) -> Stepped
+) -> Result<State, Refused>
     requires { (Fielded line.now fields) × OfKind "C" line.now }
     ensures { ClaimLined line.now number formulas.now rows.now left.now
         right.now state result }
 {
+    let badly = Refused {
+        refusal: Refusal::BadLine,
+        line: number,
+    };
     if fields.count != 3 {
-        return state.refused(BAD_LINE, number);
+        return Err(badly);
     }
     let mut l = [0u16; MOST_ON_SIDE];
     let mut r = [0u16; MOST_ON_SIDE];
     let antecedent = read_side(field(line, fields, 1), &mut l);
     let succedent = read_side(field(line, fields, 2), &mut r);
-    if !antecedent.well {
-        return state.refused(BAD_LINE, number);
-    }
-    if !succedent.well {
-        return state.refused(BAD_LINE, number);
-    }
+    let Some(antecedent) = antecedent else {
+        return Err(badly);
+    };
+    let Some(succedent) = succedent else {
+        return Err(badly);
+    };
     settle_claim(
         antecedent, succedent, number, &l, &r, formulas, rows, left, right, state,
     )

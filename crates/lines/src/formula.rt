@@ -1,89 +1,76 @@
 // F lines.
 ghost use Rattle.std.specs.Prelude.{◌≡◌};
-ghost use Rattle.std.proofs.Math.Option.{none};
 ghost use Rattle.format.specs.Line.{node_of};
+ghost use Rattle.refusals.specs.Refusals.{outcome};
 ghost use Rattle.parts.specs.Parts.{Fielded};
 ghost use Rattle.state.specs.Lined.{OfKind};
-ghost use Rattle.lines.specs.FormulaLines.{written_as, narrowed, ahead_in, FormulaNumbered, FormulaLined};
+ghost use Rattle.lines.specs.FormulaLines.{one_operand, two_operands, written_as, record_by, narrowed, ahead_in, FormulaNumbered, FormulaLined};
 
 use counts::Counts;
 use counts::limits::MOST_FORMULAS;
-use keywords::{NO_WORD, formula_word};
-use known::{Entry, enter_formula};
-use parts::refusals::BAD_LINE;
+use keywords::{Word, formula_word};
+use known::{NoEntry, enter_formula};
 use parts::{Fields, field, is_dash};
-use state::{FORMULAS, State, Stepped, out_of_order};
-use tables::records::{NodeRecord, narrow};
-use text::numbers::{Number, read_number};
+use refusals::Refusal;
+use state::{FORMULAS, State, out_of_order};
+use tables::records::{ABSENT, NodeRecord, narrow};
+use text::numbers::read_number;
 
-// A formula as it is written: a word from 0 to 5, and its operands, 65,535 where it has none.
+// A formula as it is written.
 #[derive(Clone, Copy)]
-pub struct Written {
-    pub well: bool,
-    pub word: u32,
-    pub first: u32,
-    pub second: u32,
+pub enum Written {
+    Bot,
+    Atom(u32),
+    Not(u32),
+    And(u32, u32),
+    Or(u32, u32),
+    Imp(u32, u32),
 }
 
-const ABSENT: u32 = 65535;
-
-fn badly() -> Written
-    ensures { result ≡ written_as none }
+// The one operand that two fields write.
+fn read_one(first_field: &[u8], second_field: &[u8]) -> Option<u32>
+    ensures { result ≡ one_operand first_field.now second_field.now }
 {
-    Written {
-        well: false,
-        word: 0,
-        first: 0,
-        second: 0,
+    if is_dash(second_field) {
+        read_number(first_field)
+    } else {
+        None
     }
+}
+
+// The two operands that two fields write.
+fn read_two(first_field: &[u8], second_field: &[u8]) -> Option<(u32, u32)>
+    ensures { result ≡ two_operands first_field.now second_field.now }
+{
+    Some((read_number(first_field)?, read_number(second_field)?))
 }
 
 // The formula of three fields.
-fn read_node(word_field: &[u8], first_field: &[u8], second_field: &[u8]) -> Written
+fn read_node(word_field: &[u8], first_field: &[u8], second_field: &[u8]) -> Option<Written>
     ensures { result ≡ written_as (node_of word_field.now first_field.now second_field.now) }
 {
-    let word = formula_word(word_field);
-    if word == NO_WORD {
-        return badly();
-    }
-    if word == 0 {
-        if !is_dash(first_field) {
-            return badly();
+    match formula_word(word_field)? {
+        Word::Bot => {
+            if is_dash(first_field) && is_dash(second_field) {
+                Some(Written::Bot)
+            } else {
+                None
+            }
         }
-        if !is_dash(second_field) {
-            return badly();
+        Word::Atom => Some(Written::Atom(read_one(first_field, second_field)?)),
+        Word::Not => Some(Written::Not(read_one(first_field, second_field)?)),
+        Word::And => {
+            let (i, j) = read_two(first_field, second_field)?;
+            Some(Written::And(i, j))
         }
-        return Written {
-            well: true,
-            word,
-            first: ABSENT,
-            second: ABSENT,
-        };
-    }
-    let one = read_number(first_field);
-    let Number::Value(first) = one else {
-        return badly();
-    };
-    if word < 3 {
-        if !is_dash(second_field) {
-            return badly();
+        Word::Or => {
+            let (i, j) = read_two(first_field, second_field)?;
+            Some(Written::Or(i, j))
         }
-        return Written {
-            well: true,
-            word,
-            first,
-            second: ABSENT,
-        };
-    }
-    let two = read_number(second_field);
-    let Number::Value(second) = two else {
-        return badly();
-    };
-    Written {
-        well: true,
-        word,
-        first,
-        second,
+        Word::Imp => {
+            let (i, j) = read_two(first_field, second_field)?;
+            Some(Written::Imp(i, j))
+        }
     }
 }
 
@@ -91,88 +78,87 @@ fn read_node(word_field: &[u8], first_field: &[u8], second_field: &[u8]) -> Writ
 fn refers_ahead(node: Written, counts: Counts) -> bool
     ensures { result ≡ ahead_in node counts }
 {
-    let word = node.word;
-    let first = node.first as usize;
-    let second = node.second as usize;
-    if word == 0 {
-        return false;
+    match node {
+        Written::Bot => false,
+        Written::Atom(p) => counts.atoms <= p as usize,
+        Written::Not(i) => counts.formulas <= i as usize,
+        Written::And(i, j) | Written::Or(i, j) | Written::Imp(i, j) => {
+            counts.formulas <= i as usize || counts.formulas <= j as usize
+        }
     }
-    if word == 1 {
-        return counts.atoms <= first;
+}
+
+fn record(word: Word, first: u16, second: u16) -> NodeRecord
+    ensures { result ≡ record_by word first second }
+{
+    NodeRecord {
+        word: u16::from(word),
+        first,
+        second,
     }
-    if counts.formulas <= first {
-        return true;
-    }
-    if word == 2 {
-        return false;
-    }
-    counts.formulas <= second
 }
 
 // The record of a formula whose operands are earlier.
 fn record_of(node: Written) -> NodeRecord
     ensures { result ≡ narrowed node }
 {
-    NodeRecord {
-        word: narrow(node.word),
-        first: narrow(node.first),
-        second: narrow(node.second),
+    match node {
+        Written::Bot => record(Word::Bot, ABSENT, ABSENT),
+        Written::Atom(p) => record(Word::Atom, narrow(p), ABSENT),
+        Written::Not(i) => record(Word::Not, narrow(i), ABSENT),
+        Written::And(i, j) => record(Word::And, narrow(i), narrow(j)),
+        Written::Or(i, j) => record(Word::Or, narrow(i), narrow(j)),
+        Written::Imp(i, j) => record(Word::Imp, narrow(i), narrow(j)),
     }
 }
 
-// The first of the numbers 4, 5 and 7 that applies to a formula, 0 if none does.
-fn formula_number(state: State, n: u32, node: Written) -> u32
-    ensures { FormulaNumbered state n node result }
+// The first of the numbers 4, 5 and 7 that applies to a formula.
+fn formula_number(state: State, n: u32, node: Written) -> Result<(), Refusal>
+    ensures { FormulaNumbered state n node (outcome result) }
 {
     let counts = state.counts;
     if out_of_order(state.stage, FORMULAS, counts.formulas, n) {
-        return 4;
+        return Err(Refusal::OutOfOrder);
     }
     if MOST_FORMULAS <= counts.formulas {
-        return 5;
+        return Err(Refusal::Full);
     }
     if refers_ahead(node, counts) {
-        return 7;
+        return Err(Refusal::NoSuchItem);
     }
-    0
+    Ok(())
 }
 
-// An F line, taken into its fields; it is line `number`.
+// An F line, taken into its fields.
 pub(crate) fn formula_line(
     line: &[u8],
-    number: u32,
     fields: Fields,
     formulas: &mut [u16],
     notes: &mut [u64],
     state: State,
-) -> Stepped
+) -> Result<State, Refusal>
     requires { (Fielded line.now fields) × OfKind "F" line.now }
-    ensures { FormulaLined line.now number state result formulas.old notes.old formulas.new notes.new }
+    ensures { FormulaLined line.now state result formulas.old notes.old formulas.new notes.new }
 {
     if fields.count != 5 {
-        return state.refused(BAD_LINE, number);
+        return Err(Refusal::BadLine);
     }
-    let own = read_number(field(line, fields, 1));
-    let Number::Value(n) = own else {
-        return state.refused(BAD_LINE, number);
+    let Some(n) = read_number(field(line, fields, 1)) else {
+        return Err(Refusal::BadLine);
     };
     let node = read_node(
         field(line, fields, 2),
         field(line, fields, 3),
         field(line, fields, 4),
     );
-    if !node.well {
-        return state.refused(BAD_LINE, number);
-    }
-    let refusal = formula_number(state, n, node);
-    if refusal != 0 {
-        return state.refused(refusal, number);
-    }
+    let Some(node) = node else {
+        return Err(Refusal::BadLine);
+    };
+    formula_number(state, n, node)?;
     let counts = state.counts;
-    let entry = enter_formula(formulas, notes, counts.formulas, record_of(node));
-    match entry {
-        Entry::Held(_) => state.refused(8, number),
-        Entry::Full => state.refused(5, number),
-        Entry::New(_) => state.passed(counts.with_formula(), FORMULAS, number),
+    match enter_formula(formulas, notes, counts.formulas, record_of(node)) {
+        Ok(_) => Ok(state.passed(counts.with_formula(), FORMULAS)),
+        Err(NoEntry::Held(_)) => Err(Refusal::FormulaAgain),
+        Err(NoEntry::Full) => Err(Refusal::Full),
     }
 }

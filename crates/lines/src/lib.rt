@@ -8,18 +8,29 @@ mod formula;
 mod model;
 mod row;
 
+ghost use Rattle.std.specs.Prelude.{◌≡◌};
 ghost use Rattle.state.specs.State.{tables};
-ghost use Rattle.lines.specs.Stepping.{LineStepped};
+ghost use Rattle.lines.specs.Stepping.{at_line, LineStepped};
 
 use atom::atom_line;
 use claim::claim_line;
 use formula::formula_line;
 use keywords::{Kind, line_kind};
 use model::model_line;
-use parts::refusals::BAD_LINE;
 use parts::{field, read_fields};
+use refusals::Refusal;
 use row::row_line;
-use state::{State, Stepped};
+use state::{Refused, State};
+
+// What a line comes to that is refused on no other line than its own.
+fn on_line(line: u32, stepped: Result<State, Refusal>) -> Result<State, Refused>
+    ensures { result ≡ at_line line stepped }
+{
+    match stepped {
+        Ok(state) => Ok(state),
+        Err(refusal) => Err(Refused { refusal, line }),
+    }
+}
 
 // The line from `start` to `end` of the text, which is line `number`. A place outside the text is refused as a bad line.
 pub fn step_line(
@@ -34,28 +45,28 @@ pub fn step_line(
     left: &mut [u16],
     right: &mut [u16],
     state: State,
-) -> Stepped
+) -> Result<State, Refused>
     ensures { LineStepped text.now start end number state result
         (tables names.old formulas.old notes.old rows.old left.old right.old)
         (tables names.new formulas.new notes.new rows.new left.new right.new) }
 {
     if end > text.len() {
-        return state.refused(BAD_LINE, number);
+        return on_line(number, Err(Refusal::BadLine));
     }
     if start > end {
-        return state.refused(BAD_LINE, number);
+        return on_line(number, Err(Refusal::BadLine));
     }
     let line = &text[start..end];
     let fields = read_fields(line);
-    let kind = line_kind(field(line, fields, 0));
-    match kind {
-        Kind::Atom => atom_line(text, start, end, number, fields, names, state),
-        Kind::Formula => formula_line(line, number, fields, formulas, notes, state),
-        Kind::Row => row_line(
-            line, number, fields, formulas, notes, rows, left, right, state,
+    match line_kind(field(line, fields, 0)) {
+        Some(Kind::Atom) => on_line(number, atom_line(text, start, end, fields, names, state)),
+        Some(Kind::Formula) => on_line(number, formula_line(line, fields, formulas, notes, state)),
+        Some(Kind::Row) => on_line(
+            number,
+            row_line(line, fields, formulas, notes, rows, left, right, state),
         ),
-        Kind::Model => model_line(line, number, fields, state),
-        Kind::Claim => claim_line(line, number, fields, formulas, rows, left, right, state),
-        Kind::Unknown => state.refused(BAD_LINE, number),
+        Some(Kind::Model) => on_line(number, model_line(line, number, fields, state)),
+        Some(Kind::Claim) => claim_line(line, number, fields, formulas, rows, left, right, state),
+        None => on_line(number, Err(Refusal::BadLine)),
     }
 }

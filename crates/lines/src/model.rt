@@ -1,6 +1,7 @@
 // The M line.
 ghost use Rattle.std.specs.Prelude.{◌≡◌};
 ghost use Rattle.format.specs.Tests.{first};
+ghost use Rattle.refusals.specs.Refusals.{outcome};
 ghost use Rattle.early.specs.Early.{numbered};
 ghost use Rattle.parts.specs.Parts.{Fielded};
 ghost use Rattle.state.specs.Lined.{OfKind};
@@ -9,27 +10,26 @@ ghost use Rattle.lines.specs.ModelLines.{model_of, WordRead, ModelSettled, Model
 use atomset::insert;
 use counts::limits::MOST_ON_SIDE;
 use early::{bad_side, past};
-use parts::refusals::BAD_LINE;
 use parts::{Fields, field};
-use state::{MODELLED, State, Stepped, out_of_turn};
-use tables::records::{front, wide};
+use refusals::Refusal;
+use state::{MODELLED, State, out_of_turn};
+use tables::records::front;
 use text::lists::{Listed, read_side};
 
-// The first of the numbers 4, 7 and 9 that applies to the atoms of a model, 0 if none does.
-fn atoms_number(atoms: Listed, state: State) -> u32
-    ensures { numbered result ≡ first (model_of atoms state) }
+// The first of the numbers 4, 7 and 9 that applies to the atoms of a model.
+fn atoms_number(atoms: Listed, state: State) -> Result<(), Refusal>
+    ensures { numbered (outcome result) ≡ first (model_of atoms state) }
 {
-    let counts = state.counts;
     if out_of_turn(state.stage, MODELLED) {
-        return 4;
+        return Err(Refusal::OutOfOrder);
     }
-    if past(atoms, counts.atoms) {
-        return 7;
+    if past(atoms, state.counts.atoms) {
+        return Err(Refusal::NoSuchItem);
     }
     if bad_side(atoms) {
-        return 9;
+        return Err(Refusal::BadSide);
     }
-    0
+    Ok(())
 }
 
 // The set of the atoms of a list, as far as a word has room for them.
@@ -37,37 +37,36 @@ fn atoms_word(atoms: &[u16]) -> u64
     ensures { WordRead atoms.now result }
 {
     let mut set = 0;
-    let mut i = 0;
-    while i < atoms.len() {
-        set = insert(set, wide(atoms[i]));
-        i += 1;
+    for atom in atoms {
+        set = insert(set, usize::from(*atom));
     }
     set
 }
 
-// A model that is well written, by the table that its list was read into.
-fn settle_model(atoms: Listed, number: u32, list: &[u16], state: State) -> Stepped
+// A model that is well written, by the table that its list was read into; the M line is line `number`.
+fn settle_model(atoms: Listed, number: u32, list: &[u16], state: State) -> Result<State, Refusal>
     ensures { ModelSettled atoms number list.now state result }
 {
-    let refusal = atoms_number(atoms, state);
-    if refusal != 0 {
-        return state.refused(refusal, number);
-    }
-    state.modelled(atoms_word(front(list, atoms.count)), number)
+    atoms_number(atoms, state)?;
+    Ok(state.modelled(atoms_word(front(list, atoms.count)), number))
 }
 
 // An M line, taken into its fields; it is line `number`.
-pub(crate) fn model_line(line: &[u8], number: u32, fields: Fields, state: State) -> Stepped
+pub(crate) fn model_line(
+    line: &[u8],
+    number: u32,
+    fields: Fields,
+    state: State,
+) -> Result<State, Refusal>
     requires { (Fielded line.now fields) × OfKind "M" line.now }
     ensures { ModelLined line.now number state result }
 {
     if fields.count != 2 {
-        return state.refused(BAD_LINE, number);
+        return Err(Refusal::BadLine);
     }
     let mut list = [0u16; MOST_ON_SIDE];
-    let atoms = read_side(field(line, fields, 1), &mut list);
-    if !atoms.well {
-        return state.refused(BAD_LINE, number);
-    }
+    let Some(atoms) = read_side(field(line, fields, 1), &mut list) else {
+        return Err(Refusal::BadLine);
+    };
     settle_model(atoms, number, &list, state)
 }

@@ -1,6 +1,17 @@
 -- `lines::formula::formula_line` meets its contract: a bad line, a number that the formula earns, or the formula entered. Assumes
 -- nothing.
-use borrow.Author.Tests.{not-true, not-false}
+use mathlib.Core.Path.{refl, ap, ◌∙◌}
+use Rattle.std.specs.Prelude.{Ok, Err}
+use Rattle.std.proofs.lemmas.Result.{err_from_is_err_and}
+use Rattle.refusals.specs.declared.Refusal.{Refusal}
+use Rattle.refusals.specs.declared.Refusal.TheVariants.{Full}
+use Rattle.format.specs.File.{in_formulas}
+use Rattle.format.specs.Tests.{rank}
+use Rattle.counts.specs.declared.Counts.{Counts}
+use Rattle.known.specs.declared.NoEntry.{NoEntry}
+use Rattle.refusals.specs.Refusals.{outcome}
+use Rattle.state.specs.State.{passed_by}
+use Rattle.state.specs.declared.State.{State}
 use Rattle.lines.proofs.LineLaws.{line_bad}
 use Rattle.lines.proofs.FormulaLines.{
   formula_miscounted,
@@ -15,84 +26,54 @@ use Rattle.lines.proofs.FormulaLines.{
 use Rattle.lines.proofs.formula.formula_line.Goals as goal
 
 pub returns-then-fields-ne5 : goal.returns-then-fields-ne5
-returns-then-fields-ne5 c = λ text at t. line_bad _ (formula_miscounted _ _ c.requires.0 c.requires.1 c.if-fields-ne5.true) c.refused.ensures
+returns-then-fields-ne5 c text at number t = line_bad _ (formula_miscounted _ _ c.requires.0 c.requires.1 c.if-fields-ne5.true) refl
 
 pub returns-in_default : goal.returns-in_default
-returns-in_default c =
+returns-in_default c text at number t =
     let pre = c.requires in
-    let told = c.in_default.is in
-    let bad = formula_unnumbered _ _ pre.0 pre.1 c.if-fields-ne5.false c.field.ensures c.read_number-own.ensures told in
-    λ text at t. line_bad _ bad c.refused-in_default.ensures
+    line_bad _ (formula_unnumbered _ _ pre.0 pre.1 c.if-fields-ne5.false c.field.ensures c.read_number.ensures c.in_default.is) refl
 
-pub returns-then-not-node : goal.returns-then-not-node
-returns-then-not-node c =
+pub returns-in_default-node : goal.returns-in_default-node
+returns-in_default-node c text at number t =
     let pre = c.requires in
-    let number_is = c.read_number-own.ensures in
-    let told = c.in-Value.is in
-    let node_is = c.read_node-node.ensures in
-    let at_1 = c.field.ensures in
-    let at-2 = c.field-2.ensures in
-    let at-3 = c.field-3.ensures in
-    let at-4 = c.field-4.ensures in
-    let well = not-true _ c.if-not-node.true in
-    let bad = formula_unwritten _ _ pre.0 pre.1 c.if-fields-ne5.false at_1 number_is told at-2 at-3 at-4 node_is well in
-    λ text at t. line_bad _ bad c.refused-then-not-node.ensures
+    let bad =
+    formula_unwritten _ _ pre.0 pre.1 c.if-fields-ne5.false c.field.ensures c.read_number.ensures c.in-Some.is c.field-2.ensures c.field-3.ensures
+    c.field-4.ensures c.read_node-node.ensures c.in_default-node.is in
+    line_bad _ bad refl
 
-pub returns-then-refusal-ne0 : goal.returns-then-refusal-ne0
-returns-then-refusal-ne0 c =
+pub returns-in_err-formula_number : goal.returns-in_err-formula_number
+returns-in_err-formula_number c =
+    let p = err_from_is_err_and c.from_residual.result c.from_residual.ensures.1 in
     let pre = c.requires in
-    let number_is = c.read_number-own.ensures in
-    let told = c.in-Value.is in
-    let node_is = c.read_node-node.ensures in
-    let at_1 = c.field.ensures in
-    let at-2 = c.field-2.ensures in
-    let at-3 = c.field-3.ensures in
-    let at-4 = c.field-4.ensures in
-    let well = not-false _ c.if-not-node.false in
-    let read = formula_read _ _ pre.0 pre.1 c.if-fields-ne5.false at_1 number_is told at-2 at-3 at-4 node_is well in
-    formula_early _ _ _ _ _ _ _ _ c.formula_number-refusal.ensures read c.if-refusal-ne0.true c.refused-then-refusal-ne0.ensures
+    let read =
+    formula_read _ _ pre.0 pre.1 c.if-fields-ne5.false c.field.ensures c.read_number.ensures c.in-Some.is c.field-2.ensures c.field-3.ensures c.field-4.ensures
+    c.read_node-node.ensures c.in-Some-node.is in
+    formula_early _ _ _ _ _ _ _ c.formula_number.ensures read _ (ap outcome c.in_err-formula_number.was) (p.1 ∙ ap (λ (e : Refusal). Err e) p.2)
 
-pub returns-in-Held : goal.returns-in-Held
-returns-in-Held c =
+pub returns-in-Err-Held : goal.returns-in-Err-Held
+returns-in-Err-Held c =
     let pre = c.requires in
-    let number_is = c.read_number-own.ensures in
-    let told = c.in-Value.is in
-    let node_is = c.read_node-node.ensures in
-    let at_1 = c.field.ensures in
-    let at-2 = c.field-2.ensures in
-    let at-3 = c.field-3.ensures in
-    let at-4 = c.field-4.ensures in
-    let well = not-false _ c.if-not-node.false in
-    let read = formula_read _ _ pre.0 pre.1 c.if-fields-ne5.false at_1 number_is told at-2 at-3 at-4 node_is well in
-    formula_held _ _ _ _ _ _ _ _ c.formula_number-refusal.ensures read c.if-refusal-ne0.false c.record_of.ensures
-    c.enter_formula-entry.ensures _ c.in-Held.is c.refused-in-Held.ensures
+    let read =
+    formula_read _ _ pre.0 pre.1 c.if-fields-ne5.false c.field.ensures c.read_number.ensures c.in-Some.is c.field-2.ensures c.field-3.ensures c.field-4.ensures
+    c.read_node-node.ensures c.in-Some-node.is in
+    formula_held _ _ _ _ _ _ _ c.formula_number.ensures read (ap outcome c.in_ok-formula_number.was) c.record_of.ensures
+    c.enter_formula.ensures _ (c.in-Err-Held.is ∙ ap (λ (e : NoEntry). Err e) c.in-Err-Held.field-0-is) refl
 
-pub returns-in-Full : goal.returns-in-Full
-returns-in-Full c =
+pub returns-in-Err-Full : goal.returns-in-Err-Full
+returns-in-Err-Full c =
     let pre = c.requires in
-    let number_is = c.read_number-own.ensures in
-    let told = c.in-Value.is in
-    let node_is = c.read_node-node.ensures in
-    let at_1 = c.field.ensures in
-    let at-2 = c.field-2.ensures in
-    let at-3 = c.field-3.ensures in
-    let at-4 = c.field-4.ensures in
-    let well = not-false _ c.if-not-node.false in
-    let read = formula_read _ _ pre.0 pre.1 c.if-fields-ne5.false at_1 number_is told at-2 at-3 at-4 node_is well in
-    formula_full _ _ _ _ _ _ _ _ c.formula_number-refusal.ensures read c.if-refusal-ne0.false c.record_of.ensures
-    c.enter_formula-entry.ensures c.in-Full.is
+    let read =
+    formula_read _ _ pre.0 pre.1 c.if-fields-ne5.false c.field.ensures c.read_number.ensures c.in-Some.is c.field-2.ensures c.field-3.ensures c.field-4.ensures
+    c.read_node-node.ensures c.in-Some-node.is in
+    formula_full _ _ _ _ _ _ _ c.formula_number.ensures read (ap outcome c.in_ok-formula_number.was) c.record_of.ensures
+    c.enter_formula.ensures (Err Full) (c.in-Err-Full.is ∙ ap (λ (e : NoEntry). Err e) c.in-Err-Full.field-0-is)
 
-pub returns-in-New : goal.returns-in-New
-returns-in-New c =
+pub returns-in-Ok : goal.returns-in-Ok
+returns-in-Ok c =
     let pre = c.requires in
-    let number_is = c.read_number-own.ensures in
-    let told = c.in-Value.is in
-    let node_is = c.read_node-node.ensures in
-    let at_1 = c.field.ensures in
-    let at-2 = c.field-2.ensures in
-    let at-3 = c.field-3.ensures in
-    let at-4 = c.field-4.ensures in
-    let well = not-false _ c.if-not-node.false in
-    let read = formula_read _ _ pre.0 pre.1 c.if-fields-ne5.false at_1 number_is told at-2 at-3 at-4 node_is well in
-    formula_new _ _ _ _ _ _ _ _ c.formula_number-refusal.ensures read c.if-refusal-ne0.false c.record_of.ensures
-    c.enter_formula-entry.ensures _ c.in-New.is c.with_formula.ensures c.passed.ensures
+    let read =
+    formula_read _ _ pre.0 pre.1 c.if-fields-ne5.false c.field.ensures c.read_number.ensures c.in-Some.is c.field-2.ensures c.field-3.ensures c.field-4.ensures
+    c.read_node-node.ensures c.in-Some-node.is in
+    formula_new _ _ _ _ _ _ _ c.formula_number.ensures read (ap outcome c.in_ok-formula_number.was) c.record_of.ensures
+    c.enter_formula.ensures _ c.in-Ok.is
+    (ap (λ (s : State). Ok s) (c.passed.ensures ∙ ap (λ (x : Counts). passed_by c.args.state x (rank in_formulas)) c.with_formula.ensures))

@@ -17,13 +17,13 @@ goes_on_lem : (atoms : List ℕ) (set more : ℕ) {x i : ℕ} → i < length ato
 goes_on_lem atoms set more {i = i} h passed u k p =
     pass_goes_on (entered p) atoms (has set p) (has more p) i h (passed p) (u p ∙ ap (λ (x : ℕ). has set p || entered p x) k)
 
-pub loop-i-init : goal.loop-i-init
-loop-i-init c = (lit< tt, λ p. subst (λ (t : Bool). Passed (entered p) c.args.atoms.now t 0) (sym (has_zero p)) (pass_starts _ _))
+pub loop-atom-init : goal.loop-atom-init
+loop-atom-init c = (lit< tt, λ p. subst (λ (t : Bool). Passed (entered p) c.args.atoms.now t 0) (sym (has_zero p)) (pass_starts _ _))
 
-pub loop-i-preserved : goal.loop-i-preserved
-loop-i-preserved c = (search rules, goes_on_lem c.args.atoms.now _ _ (search rules) c.loop-i.invariant.1 c.insert-set.ensures c.wide.ensures)
+pub loop-atom-preserved : goal.loop-atom-preserved
+loop-atom-preserved c = (search rules, goes_on_lem c.args.atoms.now _ _ (search rules) c.loop-atom.invariant.1 c.insert-set.ensures c.from.ensures)
 
 pub returns : goal.returns
 returns c =
     let atoms = c.args.atoms.now in
-    record { small = c.loop-i.invariant.0; its = λ p. pass_ends (entered p) atoms _ c.loop-i.i (search rules) (c.loop-i.invariant.1 p) }
+    record { small = c.loop-atom.invariant.0; its = λ p. pass_ends (entered p) atoms _ c.loop-atom.atom-index (search rules) (c.loop-atom.invariant.1 p) }

@@ -1,18 +1,23 @@
 -- `lines::row::settle_row` meets its contract. Assumes nothing.
-use mathlib.Core.Path.{refl, sym, ◌∙◌}
+use mathlib.Core.Path.{refl, sym, ap, ◌∙◌}
+use Rattle.std.specs.Prelude.{Ok, Err}
+use Rattle.std.proofs.lemmas.Result.{err_from_is_err_and}
+use Rattle.refusals.specs.declared.Refusal.{Refusal}
+use Rattle.refusals.specs.Refusals.{outcome}
+use Rattle.state.specs.declared.State.{State}
 use Rattle.lines.proofs.RowLines.{settled_misplaced, settled_refused, settled_stored}
 use Rattle.lines.proofs.row.settle_row.Goals as goal
 
-pub returns-then-is_other : goal.returns-then-is_other
-returns-then-is_other c = settled_misplaced _ _ _ _ _ _ _ _ _ _ _ _ (sym c.is_other.ensures ∙ c.if-is_other.true) c.refused.ensures
+pub returns-then-out_of_order : goal.returns-then-out_of_order
+returns-then-out_of_order c = settled_misplaced _ _ _ _ _ _ _ _ _ _ _ (sym c.out_of_order.ensures ∙ c.if-out_of_order.true) refl
 
-pub returns-then-refusal-ne0 : goal.returns-then-refusal-ne0
-returns-then-refusal-ne0 c =
-    settled_refused _ _ _ _ _ _ _ _ _ _ _ _ (sym c.is_other.ensures ∙ c.if-is_other.false) _ _ refl refl _ c.drafted-draft.ensures _
-    c.row_number-refusal.ensures c.if-refusal-ne0.true c.refused-then-refusal-ne0.ensures
+pub returns-in_err-row_number : goal.returns-in_err-row_number
+returns-in_err-row_number c =
+    let p = err_from_is_err_and c.from_residual.result c.from_residual.ensures.1 in
+    settled_refused _ _ _ _ _ _ _ _ _ _ _ (sym c.out_of_order.ensures ∙ c.if-out_of_order.false) _ _ refl refl _ c.drafted-draft.ensures _
+    c.row_number.ensures _ (ap outcome c.in_err-row_number.was) (p.1 ∙ ap (λ (e : Refusal). Err e) p.2)
 
 pub returns : goal.returns
 returns c =
-    settled_stored _ _ _ _ _ _ _ _ _ _ _ _ (sym c.is_other.ensures ∙ c.if-is_other.false) _ _ refl refl _ c.drafted-draft.ensures _
-    c.row_number-refusal.ensures c.if-refusal-ne0.false _ _ _
-    c.store_row.ensures _ c.with_row.ensures c.passed.ensures
+    settled_stored _ _ _ _ _ _ _ _ _ _ _ (sym c.out_of_order.ensures ∙ c.if-out_of_order.false) _ _ refl refl _ c.drafted-draft.ensures _
+    c.row_number.ensures (ap outcome c.in_ok-row_number.was) _ _ _ c.store_row.ensures _ c.with_row.ensures (ap (λ (s : State). Ok s) c.passed.ensures)
