@@ -15,21 +15,14 @@ fn note_at(notes: &[u64], i: u16) -> u64
 }
 
 // The atoms of the formula with this record.
+#[tactic(auto, using(atomset::proofs::Digits::has_zero), unfolding(crate::specs::Known::occurs_by))]
 pub(crate) fn record_atoms(notes: &[u64], key: NodeRecord) -> u64
     ensures { (p : ℕ) → has result p ≡ occurs_by notes.now key p }
 {
-    let operator = key.word;
-    if operator == ATOM {
-        return single(usize::from(key.first));
+    match key.word {
+        ATOM => single(usize::from(key.first)),
+        NOT => note_at(notes, key.first),
+        AND..=IMP => union(note_at(notes, key.first), note_at(notes, key.second)),
+        _ => 0,
     }
-    if operator == NOT {
-        return note_at(notes, key.first);
-    }
-    if operator < AND {
-        return 0;
-    }
-    if operator > IMP {
-        return 0;
-    }
-    union(note_at(notes, key.first), note_at(notes, key.second))
 }

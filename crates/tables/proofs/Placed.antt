@@ -7,7 +7,7 @@ use mathlib.Core.List.{List, [], ◌∷◌, ◌++◌}
 use mathlib.Core.Path.{◌≡◌, refl, sym, ap, ◌∙◌}
 use borrow.Author.Tests.{le-leb, lt-leb}
 use lib.ListN.{length, get_or, take, drop, replicate, length-append, length-replicate, replicate-append-replicate}
-use lib.Seq.{take_at, drop_at, drop-append-add, get_or-take, get_or-drop, sets, sets-eq}
+use lib.Seq.{take_at, drop_at, drop-append-add, get_or-take, get_or-drop}
 use Rattle.format.specs.Tables.{part, padded}
 use Rattle.tables.specs.Records.{written}
 
@@ -54,10 +54,6 @@ module _ (table : List ℕ) (at : ℕ) (numbers : List ℕ) where
   pub written_outside : length table < at + length numbers → written table at numbers ≡ table
   unfolding written placed
   written_outside h = ap (λ (b : Bool). cond b placed table) (lt-leb (at + length numbers) (length table) h)
-
-  -- what a run of stores leaves
-  pub written_sets : at + length numbers ≤ length table → sets table at numbers ≡ written table at numbers
-  written_sets h = sets-eq numbers table at h ∙ sym (written_inside h)
 
 pub length_padded : (n : ℕ) (held : List ℕ) → length held ≤ n → length (padded n held) ≡ n
 length_padded n held h = simp (length-append, length-replicate) (omega arith)

@@ -1,17 +1,9 @@
 // A name found among the first records of the names table. A record that does not lie inside its table is none of them.
 ghost use Rattle.std.specs.Prelude.{◌≡◌};
-ghost use Rattle.format.specs.Text.{same_list};
 ghost use Rattle.format.specs.Tables.{name_width};
 ghost use Rattle.tables.specs.Names.{first_records, spelled, NameFound};
 
 use counts::limits::NAME_WIDTH;
-
-// Whether two byte strings are equal.
-pub fn same_bytes(a: &[u8], b: &[u8]) -> bool
-    ensures { result ≡ same_list a.now b.now }
-{
-    a == b
-}
 
 // Whether the text has exactly this name at a place.
 fn spells(text: &[u8], start: u16, len: u16, name: &[u8]) -> bool

@@ -134,43 +134,41 @@ pub fn row(rows: &[u16], i: usize) -> RowRecord
 pub fn put_name(names: &mut [u16], count: usize, start: u16, len: u16)
     ensures { names.new ≡ written names.old (name_width * count) (start ∷ len ∷ []) }
 {
-    if count >= names.len() / NAME_WIDTH {
-        return;
-    }
-    let at = NAME_WIDTH * count;
-    names[at] = start;
-    names[at + 1] = len;
+    put_record(names, count, [start, len]);
 }
 
 // Writes the record of a formula.
 pub fn put_node(formulas: &mut [u16], count: usize, node: NodeRecord)
     ensures { formulas.new ≡ written formulas.old (node_width * count) (record_numbers node) }
 {
-    if count >= formulas.len() / NODE_WIDTH {
-        return;
-    }
-    let at = NODE_WIDTH * count;
-    formulas[at] = node.word;
-    formulas[at + 1] = node.first;
-    formulas[at + 2] = node.second;
+    put_record(formulas, count, [node.word, node.first, node.second]);
 }
 
 // Writes the record of a row.
 pub fn put_row(rows: &mut [u16], count: usize, row: RowRecord)
     ensures { rows.new ≡ written rows.old (row_width * count) (row_numbers row) }
 {
-    if count >= rows.len() / ROW_WIDTH {
-        return;
-    }
-    let at = ROW_WIDTH * count;
-    rows[at] = row.rule;
-    rows[at + 1] = row.principal;
-    rows[at + 2] = row.first;
-    rows[at + 3] = row.second;
-    rows[at + 4] = row.left_start;
-    rows[at + 5] = row.left_length;
-    rows[at + 6] = row.right_start;
-    rows[at + 7] = row.right_length;
+    put_record(
+        rows,
+        count,
+        [
+            row.rule,
+            row.principal,
+            row.first,
+            row.second,
+            row.left_start,
+            row.left_length,
+            row.right_start,
+            row.right_length,
+        ],
+    );
+}
+
+// Writes record `count` of a table of records of so many numbers. No table is as long as the place at which the product saturates.
+fn put_record<const N: usize>(table: &mut [u16], count: usize, numbers: [u16; N])
+    ensures { table.new ≡ written table.old (N * count) numbers.entry }
+{
+    put_side(table, count.saturating_mul(N), &numbers);
 }
 
 // Writes a side into a pool.
