@@ -47,25 +47,19 @@ fn judged(key: NodeRecord, set: u64, negation: u8, allowed: u8, before: &[u8]) -
     ensures { (ts : List Bool) (n a : Bool) → before.now ≡ map digit ts → negation ≡ digit n → allowed ≡ digit a
         → result ≡ digit (judged_by set n a ts key) }
 {
-    let operator = key.word;
-    if operator == NOT {
-        return negation;
-    }
-    if operator == ATOM {
-        return atom_in(set, key.first);
+    match key.word {
+        NOT => return negation,
+        ATOM => return atom_in(set, key.first),
+        _ => {}
     }
     let first = note_of(before, key.first);
     let second = note_of(before, key.second);
-    if operator == AND {
-        return first & second;
+    match key.word {
+        AND => first & second,
+        OR => first | second,
+        IMP => allowed & ((first ^ 1) | second),
+        _ => 0,
     }
-    if operator == OR {
-        return first | second;
-    }
-    if operator == IMP {
-        return allowed & ((first ^ 1) | second);
-    }
-    0
 }
 
 // Notes the truths of the first formulas in (t,t), as far as the count and the table of notes go.

@@ -1,5 +1,6 @@
 -- `pairs::judged` meets its contract: the word of the record decides, as in the definition. Assumes nothing.
 use Prim.Native.Nat.{ℕ}
+use native.Mathlib.Omega.{arith}
 use mathlib.Core.Bool.{Bool, false, not, ◌&&◌, ◌||◌}
 use mathlib.Core.List.{List, map}
 use mathlib.Core.Path.{◌≡◌, sym, ap, ap₂, ◌∙◌}
@@ -62,33 +63,22 @@ module _ (set : ℕ) (n a : Bool) (ts : List Bool) (key : NodeRecord) where
       let w = key.word in
       simp (ne_eqb w 1 p, ne_eqb w 2 q, ne_eqb w 3 r, ne_eqb w 4 s, ne_eqb w 5 t)
 
-pub returns-then-operator-eq-NOT : goal.returns-then-operator-eq-NOT
-returns-then-operator-eq-NOT c ts n a e f g =
-    let args = c.args in
-    f ∙ of_not args.set n a ts args.key c.if-operator-eq-NOT.true
+pub returns-in-2 : goal.returns-in-2
+returns-in-2 c ts n a e f g = f ∙ of_not c.args.set n a ts c.args.key c.in-2.is
 
-pub returns-then-operator-eq-ATOM : goal.returns-then-operator-eq-ATOM
-returns-then-operator-eq-ATOM c ts n a e f g =
-    let args = c.args in
-    c.atom_in.ensures ∙ of_atom args.set n a ts args.key c.if-operator-eq-ATOM.true
+pub returns-in-1 : goal.returns-in-1
+returns-in-1 c ts n a e f g = c.atom_in.ensures ∙ of_atom c.args.set n a ts c.args.key c.in-1.is
 
-pub returns-then-operator-eq-AND : goal.returns-then-operator-eq-AND
-returns-then-operator-eq-AND c ts n a e f g =
-    let args = c.args in
-    of_and args.set n a ts args.key _ e c.note_of-first.ensures c.note_of-second.ensures c.if-operator-eq-AND.true
+pub returns-in-3 : goal.returns-in-3
+returns-in-3 c ts n a e f g = of_and c.args.set n a ts c.args.key _ e c.note_of-first.ensures c.note_of-second.ensures c.in-3.is
 
-pub returns-then-operator-eq-OR : goal.returns-then-operator-eq-OR
-returns-then-operator-eq-OR c ts n a e f g =
-    let args = c.args in
-    of_or args.set n a ts args.key _ e c.note_of-first.ensures c.note_of-second.ensures c.if-operator-eq-OR.true
+pub returns-in-4 : goal.returns-in-4
+returns-in-4 c ts n a e f g = of_or c.args.set n a ts c.args.key _ e c.note_of-first.ensures c.note_of-second.ensures c.in-4.is
 
-pub returns-then-operator-eq-IMP : goal.returns-then-operator-eq-IMP
-returns-then-operator-eq-IMP c ts n a e f g =
-    let args = c.args in
-    of_imp args.set n a ts args.key _ e c.note_of-first.ensures c.note_of-second.ensures c.if-operator-eq-IMP.true _ g
+pub returns-in-5 : goal.returns-in-5
+returns-in-5 c ts n a e f g = of_imp c.args.set n a ts c.args.key _ e c.note_of-first.ensures c.note_of-second.ensures c.in-5.is _ g
 
-pub returns : goal.returns
-returns c ts n a e f g =
-    let args = c.args in
-    sym (ap digit (of_none args.set n a ts args.key c.if-operator-eq-ATOM.false c.if-operator-eq-NOT.false c.if-operator-eq-AND.false
-    c.if-operator-eq-OR.false c.if-operator-eq-IMP.false))
+pub returns-in_default-word : goal.returns-in_default-word
+returns-in_default-word c ts n a e f g =
+    sym (ap digit (of_none c.args.set n a ts c.args.key (λ q. omega arith) (λ q. omega arith) (λ q. omega arith) (λ q. omega arith)
+    (λ q. omega arith)))
