@@ -46,21 +46,14 @@ pub struct RowRecord {
     pub right_length: u16,
 }
 
-// A number of a table, as an index.
-pub fn wide(x: u16) -> usize
-    ensures { result ≡ x }
-{
-    usize::from(x)
-}
-
-// A number as a table holds it, in 16 bits; what is stored was bounded before.
+// A number as a table holds it, in 16 bits; what is stored was bounded before. The mask is how Rattle writes a cast that may drop digits.
 pub fn narrow(x: u32) -> u16
     ensures { result ≡ x % 65536 }
 {
     (x % 65536) as u16
 }
 
-// The same for places and lengths.
+// The same for places and lengths: one function for both would take a cast at each of its calls.
 pub fn narrow_place(x: usize) -> u16
     ensures { result ≡ x % 65536 }
 {
