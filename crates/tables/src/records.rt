@@ -46,7 +46,7 @@ pub struct RowRecord {
     pub right_length: u16,
 }
 
-// A number as a table holds it, in 16 bits; what is stored was bounded before. The mask is how Rattle writes a cast that may drop digits.
+// A number as a table holds it, in 16 bits; what is stored was bounded before. No cast may drop digits, so the rest is taken first.
 pub fn narrow(x: u32) -> u16
     ensures { result ≡ x % 65536 }
 {
@@ -75,7 +75,8 @@ pub fn front(table: &[u16], count: usize) -> &[u16]
     &table[..count.min(table.len())]
 }
 
-// Record i of the formulas table.
+// Record i of the formulas table, read field by field as that of a row below: by one function that reads so many numbers into an
+// array, which proves as well, the formulas of a pair are judged four times as slowly.
 pub fn node(formulas: &[u16], i: usize) -> NodeRecord
     ensures { result ≡ record_from (node_at formulas.now i) }
 {
