@@ -1,4 +1,5 @@
-// The subset tests that the rules of the calculus use, each one pass with a cursor for each side.
+// The subset tests that the rules of the calculus use, each one pass with a cursor for each side. Iterators over the sides are no plainer:
+// each cursor goes on by a rule of its own, and both over whole blocks at once.
 ghost use Rattle.std.specs.Prelude.{[], ◌∷◌, ◌++◌};
 ghost use Rattle.equilibrium.specs.Meaning.{◌⊆◌};
 ghost use Rattle.sides.specs.Covering.{Covered, Skips, FirstOutside};
