@@ -12,7 +12,8 @@ use drafts::Draft;
 use rules::{FIRST_KIND, KIND, PREMISES, PRINCIPAL, SECOND_KIND, rule_number};
 use tables::records::row;
 
-// The number of a row's kind: 0 for ELK, 1 for refutation.
+// The number of a row's kind: 0 for ELK, 1 for refutation. An enum would be no plainer: it is compared with numbers of the rule table,
+// where 2 stands for no premise.
 fn kind_of(rows: &[u16], i: u16) -> u8
     ensures { result ≡ rule_number (row_from (row_at rows.now i)).rule 1 }
 {

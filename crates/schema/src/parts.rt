@@ -32,7 +32,8 @@ fn split(formulas: &[u16], whole: u16, at: u16, word: u16) -> Option<Parts>
     })
 }
 
-// The parts of formula `p`, if it is of the form: any formula, one of a word (0 to 5), or the negation of one (four more).
+// The parts of formula `p`, if it is of the form: any formula, one of a word (0 to 5), or the negation of one (four more). An enum of
+// forms would be no plainer: all but one are words, and a form is computed with.
 pub(crate) fn parts_of(formulas: &[u16], form: u16, p: u16) -> Option<Parts>
     ensures { result ≡ parts_if (parts_in formulas.now form p) }
 {

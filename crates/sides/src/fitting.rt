@@ -1,4 +1,5 @@
-// Whether sides are one set, each with something of its own added: the law of common sets.
+// Whether sides are one set, each with something of its own added: the law of common sets. A side and what is added to it are no struct:
+// the proofs need that the numbers of a side have 16 bits, which is known of a slice alone and not of one in a struct.
 ghost use Rattle.std.specs.Prelude.{◌≡◌, [], ◌∷◌};
 ghost use Rattle.equilibrium.specs.Meaning.{◌∈◌, ◌⊆◌};
 ghost use Rattle.elk.specs.CommonSets.{Shared};
