@@ -238,6 +238,13 @@ module _ (text : Bytes) (start end : ℕ) (ordered : start ≤ end) (within : en
             ∙ name_there line fields fielded kind three;
       }
 
+-- the same of a line that is that part
+pub name_of_line : (text : Bytes) (start end : ℕ) → start ≤ end → end ≤ length text → (line : Bytes) → line ≡ between text start end
+    → (fields : Fields) → Fielded line fields → OfKind "A" line → fields.count ≡ 3 → NameAt text start line
+name_of_line text start end ordered within line is fields fielded kind three =
+    subst (NameAt text start) (sym is)
+    (name_at_lem text start end ordered within fields (subst (λ (l : Bytes). Fielded l fields) is fielded) (subst (OfKind "A") is kind) three)
+
 -- ---- one atom more
 
 name_some : (name : Bytes) → is_name name ≡ true → 0 < length name

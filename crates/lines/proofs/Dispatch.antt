@@ -1,6 +1,5 @@
 -- The kind of a line by its first field, and what each kind's function says of the line.
 use Prim.Native.Nat.{ℕ, ◌≤◌}
-use native.Mathlib.Omega.{arith}
 use mathlib.Core.Path.{◌≡◌, refl, sym, subst, ◌∙◌}
 use mathlib.Core.Bool.{Bool, true, false, cond}
 use mathlib.Core.List.{List, [], ◌∷◌}
@@ -9,13 +8,12 @@ use lib.ListN.{length, get_or}
 use Rattle.format.specs.Text.{Bytes, bytes, fields_of, is}
 use Rattle.format.specs.Line.{line_of, of_kind}
 use Rattle.format.proofs.Booleans.{same_list_lem}
-use Rattle.parts.specs.Parts.{between, Fielded, FieldPart}
+use Rattle.parts.specs.Parts.{between}
 use Rattle.keywords.specs.Words.{kind_named, KindRead}
 use Rattle.keywords.specs.declared.Kind.{Kind}
 use Rattle.keywords.specs.declared.Kind.TheVariants.{Atom, Formula, Row, Model, Claim}
 use Rattle.std.specs.Prelude.{Option as Answer, None, Some}
 use Rattle.refusals.specs.declared.Refusal.TheVariants.{BadLine}
-use Rattle.parts.specs.declared.Fields.{Fields}
 use Rattle.state.specs.State.{Stepped, refused_by, Memory}
 use Rattle.state.specs.Lined.{Lined}
 use Rattle.lines.specs.Stepping.{LineStepped}
@@ -53,19 +51,22 @@ unfolding line_of
 unknown_line line e = unknown_fields (fields_of line) e
 
 -- the kind that was read names the line's first field
-pub kind_is : (line : Bytes) {fields : Fields} {first : Bytes} {read : Answer Kind} (kind : Answer Kind) → Fielded line fields → FieldPart line fields 0 first
-    → KindRead first read → read ≡ kind → Named kind (get_or (fields_of line) 0 [])
-kind_is line {first = first} kind fielded part found told =
-    subst (Named kind) (part.field fielded (omega arith)) (subst (λ (k : Answer Kind). Named k first) (sym found.answer ∙ told) (named first))
+pub kind_is : (line : Bytes) {first : Bytes} {read : Answer Kind} (kind : Answer Kind) → first ≡ get_or (fields_of line) 0 [] → KindRead first read → read ≡ kind → Named kind (get_or (fields_of line) 0 [])
+kind_is line {first = first} kind part found told =
+    subst (Named kind) part (subst (λ (k : Answer Kind). Named k first) (sym found.answer ∙ told) (named first))
 
 module _ (text : Bytes) (start end number : ℕ) (s : State) (r : Stepped) where
   pub stepped_outside : (t : Memory) → ((start ≤ end) × (end ≤ length text) → ⊥) → r ≡ refused_by BadLine number → LineStepped text start end number s r t t
   stepped_outside t h given = record { inside = λ a b. absurd (h (a, b)); outside = λ _. (given, refl) }
 
   module _ (ordered : start ≤ end) (within : end ≤ length text) where
-    pub stepped : (t u : Memory) → Lined text start (between text start end) number s r t u → LineStepped text start end number s r t u
-    stepped t u lined = record { inside = λ a b. lined; outside = λ h. absurd (h (ordered, within)) }
+    module _ {line : Bytes} (is : line ≡ between text start end) where
+      pub stepped : (t u : Memory) → Lined text start line number s r t u → LineStepped text start end number s r t u
+      stepped t u lined =
+          record {
+            inside = λ a b. subst (λ (l : Bytes). Lined text start l number s r t u) is lined;
+            outside = λ h. absurd (h (ordered, within));
+          }
 
-    pub stepped_unknown : (t : Memory) → Named None (get_or (fields_of (between text start end)) 0 []) → r ≡ refused_by BadLine number
-        → LineStepped text start end number s r t t
-    stepped_unknown t e given = stepped t t (line_bad t (unknown_line (between text start end) e) given)
+      pub stepped_unknown : (t : Memory) → Named None (get_or (fields_of line) 0 []) → r ≡ refused_by BadLine number → LineStepped text start end number s r t t
+      stepped_unknown t e given = stepped t t (line_bad t (unknown_line line e) given)

@@ -20,7 +20,7 @@ use Rattle.format.specs.Good.{Good}
 use Rattle.format.proofs.GoodBodies.{Held, good_held}
 use Rattle.format.proofs.Stepping.{step_formula}
 use Rattle.format.proofs.Formulas.{known_earlier}
-use Rattle.parts.specs.Parts.{Fielded, FieldPart}
+use Rattle.parts.specs.Parts.{Fielded}
 use Rattle.text.specs.Numbers.{number_as, NumberRead}
 use Rattle.std.specs.Prelude.{Option as Answer, None, Some, Result, Ok, Err}
 use Rattle.std.proofs.lemmas.Option.{none-some, same_Some}
@@ -170,23 +170,23 @@ module _ (line : Bytes) (fields : Fields) (fielded : Fielded line fields) (kind 
         line_formula line kind (sym fielded.counted ∙ five)
         ∙ ap₂ (λ (x : Option ℕ) (y : Option Node). (λ n m. formula_line n m) <$> x <*> y) e k
 
-    module _ {first : Bytes} {own : Answer ℕ} (at_first : FieldPart line fields 1 first) (number_read : NumberRead first own) where
+    module _ {first : Bytes} {own : Answer ℕ} (at_first : first ≡ get_or (fields_of line) 1 []) (number_read : NumberRead first own) where
       own_is : own ≡ number_as (number_of (get_or (fields_of line) 1 []))
-      own_is = number_read.answer ∙ ap (λ (x : Bytes). number_as (number_of x)) (at_first.field fielded (omega arith))
+      own_is = number_read.answer ∙ ap (λ (x : Bytes). number_as (number_of x)) at_first
 
       pub formula_unnumbered : own ≡ None → line_of line ≡ none
       formula_unnumbered e = by_fields none (node_in line) (was_no_number _ (sym own_is ∙ e)) refl
 
-      module _ {n : ℕ} (is_number : own ≡ Some n) {b c d : Bytes} (at_b : FieldPart line fields 2 b) (at_c : FieldPart line fields 3 c)
-          (at-d : FieldPart line fields 4 d) {node : Answer Written} (is-node : node ≡ written_as (node_of b c d)) where
+      module _ {n : ℕ} (is_number : own ≡ Some n) {b c d : Bytes} (at_b : b ≡ get_or (fields_of line) 2 []) (at_c : c ≡ get_or (fields_of line) 3 [])
+          (at-d : d ≡ get_or (fields_of line) 4 []) {node : Answer Written} (is-node : node ≡ written_as (node_of b c d)) where
         number_is : number_of (get_or (fields_of line) 1 []) ≡ some n
         number_is = was_number _ n (sym own_is ∙ is_number)
 
         node_is : node ≡ written_as (node_in line)
         node_is =
-            let word = at_b.field fielded (omega arith) in
-            let one = at_c.field fielded (omega arith) in
-            let two = at-d.field fielded (omega arith) in
+            let word = at_b in
+            let one = at_c in
+            let two = at-d in
             is-node ∙ cc
 
         pub formula_unwritten : node ≡ None → line_of line ≡ none

@@ -1,12 +1,12 @@
 // A lines.
-ghost use Rattle.std.specs.Prelude.{◌≤◌, length};
+ghost use Rattle.std.specs.Prelude.{◌≡◌, ◌≤◌, length};
 ghost use Rattle.refusals.specs.Refusals.{outcome};
-ghost use Rattle.parts.specs.Parts.{between, Fielded};
+ghost use Rattle.parts.specs.Parts.{between};
 ghost use Rattle.state.specs.Lined.{OfKind};
 ghost use Rattle.lines.specs.AtomLines.{AtomNumbered, AtomLined};
 
+use crate::line::Line;
 use counts::limits::MOST_ATOMS;
-use parts::{Fields, field};
 use refusals::Refusal;
 use state::{ATOMS, State, out_of_order};
 use tables::names::find_name;
@@ -34,27 +34,26 @@ fn atom_number(text: &[u8], names: &[u16], state: State, n: u32, name: &[u8]) ->
     Ok(())
 }
 
-// An A line that starts at `start` and ends at `end` of the text, taken into its fields.
+// An A line that starts at `start` and ends at `end` of the text.
 pub(crate) fn atom_line(
     text: &[u8],
     start: usize,
     end: usize,
-    fields: Fields,
+    line: Line<'_>,
     names: &mut [u16],
     state: State,
 ) -> Result<State, Refusal>
-    requires { (start ≤ end) × (end ≤ length text.now) × (Fielded (between text.now start end) fields) × OfKind "A" (between text.now start end) }
-    ensures { AtomLined text.now start (between text.now start end) state result names.old names.new }
+    requires { (start ≤ end) × (end ≤ length text.now) × (line.bytes.now ≡ between text.now start end) × OfKind "A" line.bytes.now }
+    ensures { AtomLined text.now start line.entry.bytes.now state result names.old names.new }
 {
-    if fields.count != 3 {
+    if line.fields.count != 3 {
         return Err(Refusal::BadLine);
     }
-    let line = &text[start..end];
-    let number_field = field(line, fields, 1);
+    let number_field = line.field(1);
     let Some(n) = read_number(number_field) else {
         return Err(Refusal::BadLine);
     };
-    let name = field(line, fields, 2);
+    let name = line.field(2);
     atom_number(text, names, state, n, name)?;
     let counts = state.counts;
     let name_start = start + 3 + number_field.len();

@@ -3,14 +3,13 @@ ghost use Rattle.std.specs.Prelude.{◌≡◌};
 ghost use Rattle.format.specs.Tests.{first};
 ghost use Rattle.refusals.specs.Refusals.{outcome};
 ghost use Rattle.early.specs.Early.{numbered};
-ghost use Rattle.parts.specs.Parts.{Fielded};
 ghost use Rattle.state.specs.Lined.{OfKind};
 ghost use Rattle.lines.specs.ClaimLines.{claim_of, model_before, ClaimSettled, ClaimLined};
 
+use crate::line::Line;
 use counts::limits::MOST_ON_SIDE;
 use early::{bad_sides, past};
 use models::model_number;
-use parts::{Fields, field};
 use refusals::Refusal;
 use rows::last::last_is;
 use sides::sequents::Sequent;
@@ -87,32 +86,31 @@ fn settle_claim<'a>(
     Ok(state.claimed(number))
 }
 
-// A C line, taken into its fields; it is line `number`.
+// A C line; it is line `number`.
 pub(crate) fn claim_line<'a>(
-    line: &[u8],
+    line: Line<'_>,
     number: u32,
-    fields: Fields,
     formulas: &[u16],
     rows: &[u16],
     left: &'a [u16],
     right: &'a [u16],
     state: State,
 ) -> Result<State, Refused>
-    requires { (Fielded line.now fields) × OfKind "C" line.now }
-    ensures { ClaimLined line.now number formulas.now rows.now left.now
+    requires { OfKind "C" line.bytes.now }
+    ensures { ClaimLined line.entry.bytes.now number formulas.now rows.now left.now
         right.now state result }
 {
     let badly = Refused {
         refusal: Refusal::BadLine,
         line: number,
     };
-    if fields.count != 3 {
+    if line.fields.count != 3 {
         return Err(badly);
     }
     let mut l = [0u16; MOST_ON_SIDE];
     let mut r = [0u16; MOST_ON_SIDE];
-    let antecedent = read_side(field(line, fields, 1), &mut l);
-    let succedent = read_side(field(line, fields, 2), &mut r);
+    let antecedent = read_side(line.field(1), &mut l);
+    let succedent = read_side(line.field(2), &mut r);
     let Some(antecedent) = antecedent else {
         return Err(badly);
     };

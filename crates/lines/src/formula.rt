@@ -2,15 +2,15 @@
 ghost use Rattle.std.specs.Prelude.{◌≡◌};
 ghost use Rattle.format.specs.Line.{node_of};
 ghost use Rattle.refusals.specs.Refusals.{outcome};
-ghost use Rattle.parts.specs.Parts.{Fielded};
 ghost use Rattle.state.specs.Lined.{OfKind};
 ghost use Rattle.lines.specs.FormulaLines.{one_operand, two_operands, written_as, record_by, narrowed, ahead_in, FormulaNumbered, FormulaLined};
 
+use crate::line::Line;
 use counts::Counts;
 use counts::limits::MOST_FORMULAS;
 use keywords::{Word, formula_word};
 use known::{NoEntry, enter_formula};
-use parts::{Fields, field, is_dash};
+use parts::is_dash;
 use refusals::Refusal;
 use state::{FORMULAS, State, out_of_order};
 use tables::records::{ABSENT, NodeRecord, narrow};
@@ -129,28 +129,23 @@ fn formula_number(state: State, n: u32, node: Written) -> Result<(), Refusal>
     Ok(())
 }
 
-// An F line, taken into its fields.
+// An F line.
 pub(crate) fn formula_line(
-    line: &[u8],
-    fields: Fields,
+    line: Line<'_>,
     formulas: &mut [u16],
     notes: &mut [u64],
     state: State,
 ) -> Result<State, Refusal>
-    requires { (Fielded line.now fields) × OfKind "F" line.now }
-    ensures { FormulaLined line.now state result formulas.old notes.old formulas.new notes.new }
+    requires { OfKind "F" line.bytes.now }
+    ensures { FormulaLined line.entry.bytes.now state result formulas.old notes.old formulas.new notes.new }
 {
-    if fields.count != 5 {
+    if line.fields.count != 5 {
         return Err(Refusal::BadLine);
     }
-    let Some(n) = read_number(field(line, fields, 1)) else {
+    let Some(n) = read_number(line.field(1)) else {
         return Err(Refusal::BadLine);
     };
-    let node = read_node(
-        field(line, fields, 2),
-        field(line, fields, 3),
-        field(line, fields, 4),
-    );
+    let node = read_node(line.field(2), line.field(3), line.field(4));
     let Some(node) = node else {
         return Err(Refusal::BadLine);
     };

@@ -5,6 +5,7 @@
 mod atom;
 mod claim;
 mod formula;
+mod line;
 mod model;
 mod row;
 
@@ -16,8 +17,8 @@ use atom::atom_line;
 use claim::claim_line;
 use formula::formula_line;
 use keywords::{Kind, line_kind};
+use line::Line;
 use model::model_line;
-use parts::{field, read_fields};
 use refusals::Refusal;
 use row::row_line;
 use state::{Refused, State};
@@ -56,17 +57,16 @@ pub fn step_line(
     if start > end {
         return on_line(number, Err(Refusal::BadLine));
     }
-    let line = &text[start..end];
-    let fields = read_fields(line);
-    match line_kind(field(line, fields, 0)) {
-        Some(Kind::Atom) => on_line(number, atom_line(text, start, end, fields, names, state)),
-        Some(Kind::Formula) => on_line(number, formula_line(line, fields, formulas, notes, state)),
+    let line = Line::read(&text[start..end]);
+    match line_kind(line.field(0)) {
+        Some(Kind::Atom) => on_line(number, atom_line(text, start, end, line, names, state)),
+        Some(Kind::Formula) => on_line(number, formula_line(line, formulas, notes, state)),
         Some(Kind::Row) => on_line(
             number,
-            row_line(line, fields, formulas, notes, rows, left, right, state),
+            row_line(line, formulas, notes, rows, left, right, state),
         ),
-        Some(Kind::Model) => on_line(number, model_line(line, number, fields, state)),
-        Some(Kind::Claim) => claim_line(line, number, fields, formulas, rows, left, right, state),
+        Some(Kind::Model) => on_line(number, model_line(line, number, state)),
+        Some(Kind::Claim) => claim_line(line, number, formulas, rows, left, right, state),
         None => on_line(number, Err(Refusal::BadLine)),
     }
 }

@@ -3,14 +3,13 @@ ghost use Rattle.std.specs.Prelude.{◌≡◌};
 ghost use Rattle.format.specs.Tests.{first};
 ghost use Rattle.refusals.specs.Refusals.{outcome};
 ghost use Rattle.early.specs.Early.{numbered};
-ghost use Rattle.parts.specs.Parts.{Fielded};
 ghost use Rattle.state.specs.Lined.{OfKind};
 ghost use Rattle.lines.specs.ModelLines.{model_of, WordRead, ModelSettled, ModelLined};
 
+use crate::line::Line;
 use atomset::insert;
 use counts::limits::MOST_ON_SIDE;
 use early::{bad_side, past};
-use parts::{Fields, field};
 use refusals::Refusal;
 use state::{MODELLED, State, out_of_turn};
 use tables::records::front;
@@ -51,21 +50,16 @@ fn settle_model(atoms: Listed, number: u32, list: &[u16], state: State) -> Resul
     Ok(state.modelled(atoms_word(front(list, atoms.count)), number))
 }
 
-// An M line, taken into its fields; it is line `number`.
-pub(crate) fn model_line(
-    line: &[u8],
-    number: u32,
-    fields: Fields,
-    state: State,
-) -> Result<State, Refusal>
-    requires { (Fielded line.now fields) × OfKind "M" line.now }
-    ensures { ModelLined line.now number state result }
+// An M line; it is line `number`.
+pub(crate) fn model_line(line: Line<'_>, number: u32, state: State) -> Result<State, Refusal>
+    requires { OfKind "M" line.bytes.now }
+    ensures { ModelLined line.entry.bytes.now number state result }
 {
-    if fields.count != 2 {
+    if line.fields.count != 2 {
         return Err(Refusal::BadLine);
     }
     let mut list = [0u16; MOST_ON_SIDE];
-    let Some(atoms) = read_side(field(line, fields, 1), &mut list) else {
+    let Some(atoms) = read_side(line.field(1), &mut list) else {
         return Err(Refusal::BadLine);
     };
     settle_model(atoms, number, &list, state)

@@ -1,12 +1,12 @@
 // N lines: a row is read, judged apart from being stored, and stored where it passes.
-ghost use Rattle.parts.specs.Parts.{Fielded};
 ghost use Rattle.state.specs.Lined.{OfKind};
 ghost use Rattle.lines.specs.RowLines.{RowSettled, RowLined};
 
+use crate::line::Line;
 use counts::limits::MOST_ON_SIDE;
 use drafts::store::store_row;
 use drafts::{RowRead, drafted, read_row};
-use parts::{Fields, MOST_FIELDS};
+use parts::MOST_FIELDS;
 use refusals::Refusal;
 use rows::body::Body;
 use rows::row_number;
@@ -52,10 +52,9 @@ fn settle_row(
     Ok(state.passed(counts.with_row(draft.left.count, draft.right.count), ROWS))
 }
 
-// An N line, taken into its fields.
+// An N line.
 pub(crate) fn row_line(
-    line: &[u8],
-    fields: Fields,
+    line: Line<'_>,
     formulas: &[u16],
     notes: &[u64],
     rows: &mut [u16],
@@ -63,17 +62,17 @@ pub(crate) fn row_line(
     right: &mut [u16],
     state: State,
 ) -> Result<State, Refusal>
-    requires { (Fielded line.now fields) × OfKind "N" line.now }
-    ensures { RowLined line.now formulas.now notes.now state result
+    requires { OfKind "N" line.bytes.now }
+    ensures { RowLined line.entry.bytes.now formulas.now notes.now state result
         rows.old left.old right.old rows.new left.new right.new }
 {
-    if fields.count != MOST_FIELDS {
+    if line.fields.count != MOST_FIELDS {
         return Err(Refusal::BadLine);
     }
     let mut above = [ABSENT; 2];
     let mut l = [0u16; MOST_ON_SIDE];
     let mut r = [0u16; MOST_ON_SIDE];
-    let Some(row) = read_row(line, fields, &mut above, &mut l, &mut r) else {
+    let Some(row) = read_row(line.bytes, line.fields, &mut above, &mut l, &mut r) else {
         return Err(Refusal::BadLine);
     };
     settle_row(
