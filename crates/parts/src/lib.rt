@@ -33,7 +33,7 @@ fn block_lacks(bytes: &[u8], at: usize, byte: u8) -> bool
     lacks
 }
 
-// The index past the blocks of 16 bytes, from `from` on, that lack the byte.
+// The index past the blocks of 16 bytes, from `from` on, that lack the byte. It is the place itself, which `step_by` would hide.
 fn skip_blocks(bytes: &[u8], from: usize, byte: u8) -> usize
     ensures { next_at byte bytes.now from ≡ next_at byte bytes.now result }
 {
@@ -78,7 +78,7 @@ pub struct Fields {
     pub ends: [usize; MOST_FIELDS],
 }
 
-// The fields of a line, counted to its end.
+// The fields of a line, counted to its end. `split` would look at one byte after the other.
 pub fn read_fields(line: &[u8]) -> Fields
     ensures { Fielded line.now result }
 {
