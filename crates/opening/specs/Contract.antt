@@ -1,27 +1,29 @@
 -- The promise of opening a beginning of a file (paper 02, M-105), for any text and any lent tables.
-use Rattle.std.specs.Prelude.{ℕ, ◌-◌, ◌≡◌, Bool, true, false, eqb, ltb}
+use Rattle.std.specs.Prelude.{ℕ, ◌-◌, ◌≡◌, Bool, true, false, ltb, Result, Ok, Err}
 use Rattle.format.specs.Text.{Bytes}
 use Rattle.format.specs.File.{File}
 use Rattle.format.specs.Tables.{Contents, Lent}
 use Rattle.format.specs.Judged.{number_in, line_in}
-use Rattle.parts.specs.Refusals.{bad_line}
+use Rattle.refusals.specs.declared.Refusal.TheVariants.{BadLine}
+use Rattle.state.specs.declared.Refused.{Refused}
 use Rattle.run.specs.declared.Ran.{Ran}
-use Rattle.answers.specs.Answers.{answer, filled}
-use Rattle.answers.specs.declared.Answer.{Answer}
+use Rattle.run.specs.declared.Stopped.{Stopped}
+use Rattle.answers.specs.Answers.{filled}
+use Rattle.answers.specs.declared.Accepted.{Accepted}
 use Rattle.judge.specs.declared.Judged.{Judged}
 use Rattle.counts.specs.Counts.{counts_of}
 use Rattle.bodies.specs.Open.{Tables, four, IsOpen, filled as filledBy}
 use Rattle.open.specs.Files.{opened, opening_ruling, opening_contents, opening_counts}
 
--- by whether all complete lines passed, and bytes are left after them
-abbrev pub closing : Bool → Bool → Ran → Answer
-closing false more ran = answer ran.number ran.line
-closing true true ran = answer bad_line ran.line
-closing true false ran = answer 0 (ran.line - 1)
+-- by whether bytes are left after the complete lines
+abbrev pub closing : Bool → Ran → Result Accepted Refused
+closing true ran = Err (record { refusal = BadLine; line = ran.line })
+closing false ran = Ok (record { line = ran.line - 1; counts = ran.state.counts })
 
 -- the answer after the complete lines of a text of this length
-unfoldable pub closed_by : ℕ → Ran → Answer
-closed_by len ran = closing (eqb ran.number 0) (ltb ran.at len) ran
+unfoldable pub closed_by : ℕ → Result Ran Stopped → Result Accepted Refused
+closed_by len (Err s) = Err s.refused
+closed_by len (Ok ran) = closing (ltb ran.at len) ran
 
 -- Number and line are those of the definition, the counts are those of the file that is opened, and the tables at exit hold exactly
 -- that file and zeros after it; a text that is refused leaves no counts and zeros alone.

@@ -2,50 +2,35 @@
 // by the counts that are handed out (M-105).
 #![tactic(auto)]
 
-ghost use Rattle.std.specs.Prelude.{◌≡◌, false, ◌-◌, length};
+ghost use Rattle.std.specs.Prelude.{◌≡◌, false, length};
 ghost use Rattle.format.specs.Tables.{too_short};
 ghost use Rattle.run.specs.Lent.{five, lengths, Zeros};
 ghost use Rattle.opening.specs.Contract.{closed_by, Opens};
 
-use answers::Answer;
-use counts::Counts;
+use answers::Accepted;
 use counts::lengths::too_short;
 use counts::limits::LEAST_NOTES;
 use judge::{Judged, clear_all};
-use parts::refusals::BAD_LINE;
-use run::{Ran, run};
-
-// How many lines stand before the line of this number; the first is 1.
-fn lines_before(line: u32) -> u32
-    ensures { result ≡ line - 1 }
-{
-    if line == 0 {
-        return 0;
-    }
-    line - 1
-}
+use refusals::Refusal;
+use run::{Ran, Stopped, run};
+use state::Refused;
 
 // What the run was refused for; else bytes with no line feed after the complete lines are a bad line, and success reports the count
 // of the lines. No claim is asked for.
-fn close(text: &[u8], ran: Ran) -> Answer
+fn close(text: &[u8], ran: Result<Ran, Stopped>) -> Result<Accepted, Refused>
     ensures { result ≡ closed_by (length text.now) ran }
 {
-    if ran.number != 0 {
-        return Answer {
-            number: ran.number,
-            line: ran.line,
-        };
-    }
+    let ran = ran?;
     if ran.at < text.len() {
-        return Answer {
-            number: BAD_LINE,
+        return Err(Refused {
+            refusal: Refusal::BadLine,
             line: ran.line,
-        };
+        });
     }
-    Answer {
-        number: 0,
-        line: lines_before(ran.line),
-    }
+    Ok(Accepted {
+        line: ran.line.saturating_sub(1),
+        counts: ran.state.counts,
+    })
 }
 
 // A beginning run into clear tables of full length, which are clear again if it is refused.
@@ -65,17 +50,11 @@ fn open_or_clear(
 {
     let mut notes = [0u64; LEAST_NOTES];
     let ran = run(text, names, formulas, &mut notes, rows, left, right);
-    let answer = close(text, ran);
-    let counts = ran.state.counts;
-    if answer.number == 0 {
-        return Judged { answer, counts };
+    let end = close(text, ran);
+    if end.is_err() {
+        clear_all(names, formulas, rows, left, right);
     }
-    clear_all(names, formulas, rows, left, right);
-    let none = Counts::none();
-    Judged {
-        answer,
-        counts: none,
-    }
+    Judged::from(end)
 }
 
 // The answer to a beginning, with the counts of its file and the file in the lent tables, or no counts and zeros through all of them
@@ -101,10 +80,10 @@ pub fn open(
     );
     clear_all(names, formulas, rows, left, right);
     if short {
-        return Judged {
-            answer: Answer { number: 1, line: 0 },
-            counts: Counts::none(),
-        };
+        return Judged::from(Err(Refused {
+            refusal: Refusal::ShortTable,
+            line: 0,
+        }));
     }
     open_or_clear(text, names, formulas, rows, left, right)
 }

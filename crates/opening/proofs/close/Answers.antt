@@ -1,16 +1,21 @@
 -- `opening::close` meets its contract: the tests in the definition's order.
-use borrow.Author.Tests.{lt-ltb, le-ltb, eq-eqb, ne_eqb}
+use Rattle.std.specs.Prelude.{Err}
+use Rattle.std.proofs.lemmas.Result.{err_from_is_err_and}
+use mathlib.Core.Path.{ap, ◌∙◌}
+use borrow.Author.Tests.{lt-ltb, le-ltb}
 use Rattle.opening.specs.Contract.{closed_by}
 use Rattle.opening.proofs.close.Goals as goal
 
-pub returns-then-ran-ne0 : goal.returns-then-ran-ne0
+pub returns-in_err-ran : goal.returns-in_err-ran
 unfolding closed_by
-returns-then-ran-ne0 c = simp (ne_eqb _ _ c.if-ran-ne0.true)
+returns-in_err-ran c =
+    let refused = err_from_is_err_and c.from_residual.result c.from_residual.ensures.1 in
+    simp (c.in_err-ran.was) (refused.1 ∙ ap Err refused.2)
 
 pub returns-then-ran-text : goal.returns-then-ran-text
 unfolding closed_by
-returns-then-ran-text c = simp (eq-eqb _ _ c.if-ran-ne0.false, lt-ltb _ _ c.if-ran-text.true)
+returns-then-ran-text c = simp (c.in_ok-ran.was, lt-ltb _ _ c.if-ran-text.true)
 
 pub returns : goal.returns
 unfolding closed_by
-returns c = simp (eq-eqb _ _ c.if-ran-ne0.false, le-ltb _ _ c.if-ran-text.false, c.lines_before.ensures)
+returns c = simp (c.in_ok-ran.was, le-ltb _ _ c.if-ran-text.false, c.saturating_sub.ensures)
