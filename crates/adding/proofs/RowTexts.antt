@@ -34,7 +34,9 @@ use Rattle.format.proofs.Stepping.{parts_some}
 use Rattle.parts.specs.Parts.{next_at, Fielded, FieldPart, field_by}
 use Rattle.parts.specs.declared.Fields.{Fields}
 use Rattle.parts.proofs.PartLaws.{next_bounds, last_part_lem, next_part}
-use Rattle.drafts.specs.Drafts.{read_as, well_of, RowInto}
+use Rattle.std.specs.Prelude.{Option as Answer, None}
+use Rattle.std.proofs.lemmas.Option.{none-some}
+use Rattle.drafts.specs.Drafts.{RowInto}
 use Rattle.drafts.specs.declared.RowRead.{RowRead}
 use Rattle.lines.proofs.LineLaws.{line_no_row}
 use Rattle.lines.proofs.RowFields.{row_unread, row_found}
@@ -109,10 +111,9 @@ module _ (b : Body) where
 -- ---- what is said, and what was read
 
 -- no row was read where none is written
-module _ (premises left right : List ℕ) (row : RowRead) (nothing : row ≡ read_as none none none none none none) where
-  pub none_said : (said : Option Line) → ((b : Body) → with_line said b ≡ refused 3 1) → SaidRead said premises left right premises left right row
-  none_said said other =
-      record { other = λ _ b. other b; found = λ well a l r. absurd (false≢true (sym (ap well_of nothing) ∙ well)) }
+module _ (premises left right : List ℕ) where
+  pub none_said : (said : Option Line) → ((b : Body) → with_line said b ≡ refused 3 1) → SaidRead said premises left right premises left right None
+  none_said said other = record { other = λ _ b. other b; found = λ row read. absurd (none-some row read) }
 
 module _ (line : Bytes) (fields : Fields) (fielded : Fielded line fields) (first : Bytes) (part : FieldPart line fields 0 first) where
   kind_field : first ≡ get_or (fields_of line) 0 []
@@ -128,13 +129,13 @@ module _ (line : Bytes) (fields : Fields) (fielded : Fielded line fields) (first
     pub miscounted : (fields.count ≡ 7 → ⊥) → (b : Body) → with_line (line_of line) b ≡ refused 3 1
     miscounted ne b = ap (λ (o : Option Line). with_line o b) (line_no_row line of_kind_lem (λ h. ne (fielded.counted ∙ h)))
 
-    pub row_said : fields.count ≡ 7 → {premises left right premises' left' right' : List ℕ} {row : RowRead}
-        → RowInto (field_by line fields) premises left right premises' left' right' row
-        → SaidRead (line_of line) premises left right premises' left' right' row
+    pub row_said : fields.count ≡ 7 → {premises left right premises' left' right' : List ℕ} {read : Answer RowRead}
+        → RowInto (field_by line fields) premises left right premises' left' right' read
+        → SaidRead (line_of line) premises left right premises' left' right' read
     row_said counted into =
         record {
           other = λ bad b. ap (λ (o : Option Line). with_line o b) (row_unread line of_kind_lem fields fielded counted into bad);
-          found = row_found line of_kind_lem fields fielded counted into;
+          found = λ row is. row_found line of_kind_lem fields fielded counted into is;
         }
 
 -- ---- the one line of a text
@@ -186,7 +187,7 @@ module _ (text : Bytes) where
             (second ∙ ap (λ (ps : List Bytes). take (next_at line_feed text (end + 1) - (end + 1)) (drop (end + 1) text) ∷ ps) last.2))
 
 -- the same reading of what is said in other words
-pub said_same : {said said' : Option Line} {premises left right premises' left' right' : List ℕ} {row : RowRead} → said' ≡ said
-    → SaidRead said premises left right premises' left' right' row → SaidRead said' premises left right premises' left' right' row
-said_same {premises = premises} {left} {right} {premises'} {left'} {right'} {row} e s =
-    subst (λ (o : Option Line). SaidRead o premises left right premises' left' right' row) (sym e) s
+pub said_same : {said said' : Option Line} {premises left right premises' left' right' : List ℕ} {read : Answer RowRead} → said' ≡ said
+    → SaidRead said premises left right premises' left' right' read → SaidRead said' premises left right premises' left' right' read
+said_same {premises = premises} {left} {right} {premises'} {left'} {right'} {read} e s =
+    subst (λ (o : Option Line). SaidRead o premises left right premises' left' right' read) (sym e) s

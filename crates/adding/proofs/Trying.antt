@@ -2,13 +2,14 @@
 -- it holds. Assumes nothing.
 use Prim.Native.Nat.{ℕ, ◌≤◌, ◌<◌}
 use native.Mathlib.Omega.{arith}
-use mathlib.Core.Path.{◌≡◌, refl, sym, ap, subst, ◌∙◌}
+use mathlib.Core.Path.{◌≡◌, refl, sym, ap, ap₂, subst, ◌∙◌}
+use Rattle.std.specs.Prelude.{Option as Answer, None, Some, Result, Ok, Err}
 use mathlib.Core.Bool.{Bool, true, false, not, cond}
 use mathlib.Core.List.{List, [], ◌∷◌}
 use mathlib.Core.Option.{Option, some}
 use lib.Dec.{eqb}
 use lib.ListN.{length, get_or, replicate}
-use borrow.Author.Tests.{lt-ltb, le-ltb}
+use borrow.Author.Tests.{lt-ltb, le-ltb, eq-eqb, ne_eqb}
 use Rattle.format.specs.Text.{Bytes}
 use Rattle.format.specs.File.{Row, Body, add_row}
 use Rattle.format.specs.Line.{Line, row_line}
@@ -18,7 +19,12 @@ use Rattle.format.specs.Judged.{Outcome, refused, number_in, line_in}
 use Rattle.counts.specs.Counts.{count_row}
 use Rattle.counts.specs.declared.Counts.{Counts}
 use Rattle.early.specs.Early.{numbered}
-use Rattle.drafts.specs.Drafts.{well_of, draft_of, Drafted, RowLaid}
+use Rattle.refusals.specs.Refusals.{number_of}
+use Rattle.refusals.specs.declared.Refusal.{Refusal}
+use Rattle.refusals.specs.declared.Refusal.TheVariants.{ShortTable, TooLong, BadLine, OutOfOrder}
+use Rattle.refusals.proofs.OneNumber.{number_of-some}
+use Rattle.state.specs.declared.Refused.{Refused}
+use Rattle.drafts.specs.Drafts.{draft_of, Drafted, RowLaid}
 use Rattle.drafts.specs.Storing.{RowStored}
 use Rattle.drafts.specs.declared.Draft.{Draft}
 use Rattle.drafts.specs.declared.RowRead.{RowRead}
@@ -26,56 +32,44 @@ use Rattle.rows.specs.Judgement.{Ground, RowNumbered}
 use Rattle.rows.proofs.Numbering.{numbered_some, numbered_none}
 use Rattle.lines.proofs.RowFields.{row_drafted}
 use Rattle.lines.proofs.RowPut.{rows_length, left_length, right_length, counts_same, row_put, left_put, right_put}
-use Rattle.answers.specs.Answers.{answer}
-use Rattle.answers.specs.declared.Answer.{Answer}
+use Rattle.answers.specs.Answers.{answer, refusing}
 use Rattle.bodies.specs.Open.{Tables, four, lent_of, filled, IsOpen}
 use Rattle.bodies.proofs.Walking.{open_read}
 use Rattle.handed.specs.Handed.{BodyRead}
 use Rattle.open.specs.Adding.{said_in, entered, with_line, with_text, tried, ruling_of, counts_after, tables_after}
 use Rattle.open.proofs.Adding.{tried_short, tried_open, tried_none, room_each}
-use Rattle.adding.specs.declared.trial.Trial.{Trial}
 use Rattle.adding.specs.declared.Added.{Added}
 use Rattle.adding.specs.Reading.{SaidRead}
-use Rattle.adding.specs.Trials.{turned_down_by, not_next, Comes, Tries, TextJudged}
+use Rattle.adding.specs.Trials.{turned_down_by, Comes, Tries, TextJudged}
 use Rattle.adding.specs.Contract.{Adds, Previews}
 
 -- ---- the row of a text, over a body
 
-not_eq : (n held : ℕ) (x : Bool) → not (eqb n held) ≡ x → (k : ℕ) → held ≡ k → not (eqb n k) ≡ x
-not_eq n held x e k s = ap (λ (m : ℕ). not (eqb n m)) (sym s) ∙ e
+module _ (t : Tables) (notes : List ℕ) (c : Counts) (text : Bytes) (premises l r premises' l' r' : List ℕ) (read : Answer RowRead)
+    (said : SaidRead (said_in text) premises l r premises' l' r' read) where
+  pub text_other : read ≡ None → TextJudged t notes c text l r l' r' (Err BadLine)
+  text_other bad b g left_room right_room = Comes.refuses BadLine (said.other bad b)
 
-module _ (t : Tables) (notes : List ℕ) (c : Counts) (text : Bytes) (premises l r premises' l' r' : List ℕ) (row : RowRead)
-    (said : SaidRead (said_in text) premises l r premises' l' r' row) where
-  pub text_other : (trial : Trial) → trial ≡ turned_down_by 3 1 → well_of row ≡ false → TextJudged t notes c text l r l' r' trial
-  text_other trial is bad b g left_room right_room =
-      subst (Comes (with_line (said_in text) b) b l' r') (sym is) (Comes.refuses (answer 3 1) (λ e. omega (arith, e)) (said.other bad b))
-
-  module _ (well : well_of row ≡ true) (lent : premises ≡ absent ∷ absent ∷ []) where
+  module _ (row : RowRead) (is : read ≡ Some row) (lent : premises ≡ absent ∷ absent ∷ []) where
     module _ (b : Body) (g : Ground b c t.formulas notes t.rows t.left t.right) (left_room : most_on_side ≤ length l)
         (right_room : most_on_side ≤ length r) where
       abbrev found : (n : ℕ) × (q : Row) × (said_in text ≡ some (row_line n q)) × RowLaid n q row premises' l' r'
-      found = said.found well lent left_room right_room
-
-      abbrev n : ℕ
-      n = found.0
+      found = said.found row is lent left_room right_room
 
       abbrev q : Row
       q = found.1
 
-      comes : (x : Bool) → not_next row.number c.rows ≡ x
-          → with_line (said_in text) b ≡ entered (first ((4 when x) ∷ body_tests b q)) (add_row b q)
+      comes : (x : Bool) → eqb row.number c.rows ≡ x
+          → with_line (said_in text) b ≡ entered (first ((4 when not x) ∷ body_tests b q)) (add_row b q)
       comes x e =
           ap (λ (o : Option Line). with_line o b) found.2
-          ∙ ap (λ (y : Bool). entered (first ((4 when y) ∷ body_tests b q)) (add_row b q))
-          (not_eq n c.rows x (sym (ap (λ (z : RowRead). not_next z.number c.rows) found.3.read) ∙ e) (length b.rows)
-          (ap (λ (k : Counts). k.rows) g.counts))
+          ∙ ap (λ (y : Bool). entered (first ((4 when not y) ∷ body_tests b q)) (add_row b q))
+          (ap₂ eqb (sym (ap (λ (z : RowRead). z.number) found.3.read)) (sym (ap (λ (k : Counts). k.rows) g.counts)) ∙ e)
 
-    pub text_misplaced : (trial : Trial) → trial ≡ turned_down_by 4 1 → not_next row.number c.rows ≡ true → TextJudged t notes c text l r l' r' trial
-    text_misplaced trial is e b g left_room right_room =
-        subst (Comes (with_line (said_in text) b) b l' r') (sym is)
-        (Comes.refuses (answer 4 1) (λ k. omega (arith, k)) (comes b g left_room right_room true e))
+    pub text_misplaced : (row.number ≡ c.rows → ⊥) → TextJudged t notes c text l r l' r' (Err OutOfOrder)
+    text_misplaced ne b g left_room right_room = Comes.refuses OutOfOrder (comes b g left_room right_room false (ne_eqb row.number c.rows ne))
 
-    module _ (in-turn : not_next row.number c.rows ≡ false) (one two : ℕ) (is_one : one ≡ get_or premises' 0 0) (is_two : two ≡ get_or premises' 1 0)
+    module _ (in-turn : row.number ≡ c.rows) (one two : ℕ) (is_one : one ≡ get_or premises' 0 0) (is_two : two ≡ get_or premises' 1 0)
         (d : Draft) (is-draft : d ≡ draft_of row one two) (k : ℕ)
         (numbers : RowNumbered d c l' r' t.formulas notes t.rows t.left t.right k) where
       module _ (b : Body) (g : Ground b c t.formulas notes t.rows t.left t.right) (left_room : most_on_side ≤ length l)
@@ -88,16 +82,16 @@ module _ (t : Tables) (notes : List ℕ) (c : Counts) (text : Bytes) (premises l
 
         outcome : with_line (said_in text) b ≡ entered (numbered k) (add_row b (q b g left_room right_room))
         outcome =
-            comes b g left_room right_room false in-turn
+            comes b g left_room right_room true (eq-eqb row.number c.rows in-turn)
             ∙ ap (λ (o : Option ℕ). entered o (add_row b (q b g left_room right_room))) (sym earned)
 
-      pub text_refused : (trial : Trial) → trial ≡ turned_down_by k 1 → (k ≡ 0 → ⊥) → TextJudged t notes c text l r l' r' trial
-      text_refused trial is ne b g left_room right_room =
-          subst (Comes (with_line (said_in text) b) b l' r') (sym is)
-          (Comes.refuses (answer k 1) ne (outcome b g left_room right_room
-          ∙ ap (λ (o : Option ℕ). entered o (add_row b (q b g left_room right_room))) (numbered_some k ne)))
+      pub text_refused : (e : Refusal) → k ≡ number_of e → TextJudged t notes c text l r l' r' (Err e)
+      text_refused e is b g left_room right_room =
+          Comes.refuses e (outcome b g left_room right_room
+          ∙ ap (λ (o : Option ℕ). entered o (add_row b (q b g left_room right_room))) (numbered_some k (λ z. number_of-some e (sym is ∙ z)))
+          ∙ ap (λ (n : ℕ). refused n 1) is)
 
-      pub text_passes : k ≡ 0 → TextJudged t notes c text l r l' r' (Trial.Passes d)
+      pub text_passes : k ≡ 0 → TextJudged t notes c text l r l' r' (Ok d)
       text_passes z b g left_room right_room =
           let nothing = (numbered_none k).1 z in
           Comes.passes (q b g left_room right_room) d
@@ -106,17 +100,23 @@ module _ (t : Tables) (notes : List ℕ) (c : Counts) (text : Bytes) (premises l
 
 -- ---- in an open file
 
-module _ (t : Tables) (c : Counts) (text : Bytes) (l r : List ℕ) where
-  refuses_by : (n k : ℕ) → (n ≡ 0 → ⊥) → tried t c text ≡ refused n k → (trial : Trial) → trial ≡ turned_down_by n k → Tries t c text l r trial
-  refuses_by n k ne e trial is = subst (Tries t c text l r) (sym is) (Tries.refuses (answer n k) ne e)
+-- a refusal of the text, on its one line
+abbrev pub on_its_line : Result Draft Refusal → Result Draft Refused
+on_its_line (Ok d) = Ok d
+on_its_line (Err e) = turned_down_by e 1
 
-  pub tries_short : too_short (lent_of t) ≡ true → (trial : Trial) → trial ≡ turned_down_by 1 0 → Tries t c text l r trial
-  tries_short e = refuses_by 1 0 (λ z. omega (arith, z)) (tried_short t c text e)
+module _ (t : Tables) (c : Counts) (text : Bytes) (l r : List ℕ) where
+  refuses_by : (e : Refusal) (line : ℕ) → tried t c text ≡ refused (number_of e) line → (answered : Result Draft Refused)
+      → answered ≡ turned_down_by e line → Tries t c text l r answered
+  refuses_by e line k answered is = subst (Tries t c text l r) (sym is) (Tries.refuses (record { refusal = e; line = line }) k)
+
+  pub tries_short : too_short (lent_of t) ≡ true → (answered : Result Draft Refused) → answered ≡ turned_down_by ShortTable 0 → Tries t c text l r answered
+  tries_short e = refuses_by ShortTable 0 (tried_short t c text e)
 
   module _ (long : too_short (lent_of t) ≡ false) (notes notes' : List ℕ) (roomy : 3072 ≤ length notes) (zeros : notes ≡ replicate (length notes) 0)
       (found : Bool) (read : BodyRead t c notes notes' found) where
-    pub tries_none : found ≡ false → (trial : Trial) → trial ≡ turned_down_by 4 0 → Tries t c text l r trial
-    tries_none e = refuses_by 4 0 (λ z. omega (arith, z)) (tried_none t c text long (read.missing roomy zeros e))
+    pub tries_none : found ≡ false → (answered : Result Draft Refused) → answered ≡ turned_down_by OutOfOrder 0 → Tries t c text l r answered
+    tries_none e = refuses_by OutOfOrder 0 (tried_none t c text long (read.missing roomy zeros e))
 
     module _ (e : found ≡ true) where
       abbrev body : Body
@@ -128,10 +128,10 @@ module _ (t : Tables) (c : Counts) (text : Bytes) (l r : List ℕ) where
       in_text : tried t c text ≡ with_text text body
       in_text = tried_open t c body text long is_open
 
-      pub tries_long : most_bytes < length text → (trial : Trial) → trial ≡ turned_down_by 2 0 → Tries t c text l r trial
+      pub tries_long : most_bytes < length text → (answered : Result Draft Refused) → answered ≡ turned_down_by TooLong 0 → Tries t c text l r answered
       unfolding with_text
       tries_long h =
-          refuses_by 2 0 (λ z. omega (arith, z))
+          refuses_by TooLong 0
           (in_text ∙ ap (λ (x : Bool). cond x (refused 2 0) (with_line (said_in text) body)) (lt-ltb most_bytes (length text) h))
 
       ground : Ground body c t.formulas notes' t.rows t.left t.right
@@ -146,31 +146,36 @@ module _ (t : Tables) (c : Counts) (text : Bytes) (l r : List ℕ) where
           }
 
       pub tries_text : length text ≤ most_bytes → (was-l was-r : List ℕ) → most_on_side ≤ length was-l → most_on_side ≤ length was-r
-          → (trial : Trial) → TextJudged t notes' c text was-l was-r l r trial → Tries t c text l r trial
+          → (judged : Result Draft Refusal) → TextJudged t notes' c text was-l was-r l r judged → Tries t c text l r (on_its_line judged)
       unfolding with_text
-      tries_text h was-l was-r left_room right_room trial judged = by_outcome trial (judged body ground left_room right_room)
+      tries_text h was-l was-r left_room right_room judged comes = by_outcome judged (comes body ground left_room right_room)
         where
-          whole : tried t c text ≡ with_line (said_in text) body
-          whole = in_text ∙ ap (λ (x : Bool). cond x (refused 2 0) (with_line (said_in text) body)) (le-ltb most_bytes (length text) h)
+          all : tried t c text ≡ with_line (said_in text) body
+          all = in_text ∙ ap (λ (x : Bool). cond x (refused 2 0) (with_line (said_in text) body)) (le-ltb most_bytes (length text) h)
 
-          by_outcome : (s : Trial) → Comes (with_line (said_in text) body) body l r s → Tries t c text l r s
-          by_outcome (Trial.Refused a) (Comes.refuses x ne k) = Tries.refuses a ne (whole ∙ k)
-          by_outcome (Trial.Passes d) (Comes.passes q x k tests drafted) = Tries.passes body q d long is_open (whole ∙ k) tests drafted
+          by_outcome : (s : Result Draft Refusal) → Comes (with_line (said_in text) body) body l r s → Tries t c text l r (on_its_line s)
+          by_outcome (Err e) (Comes.refuses x k) = Tries.refuses (record { refusal = e; line = 1 }) (all ∙ k)
+          by_outcome (Ok d) (Comes.passes q x k tests drafted) = Tries.passes body q d long is_open (all ∙ k) tests drafted
+
+-- the same, by what the text was judged to be
+pub tries_same : {t : Tables} {c : Counts} {text : Bytes} {l r : List ℕ} {s s' : Result Draft Refusal} → s ≡ s' → Tries t c text l r (on_its_line s)
+    → Tries t c text l r (on_its_line s')
+tries_same {t} {c} {text} {l} {r} e tries = subst (λ (s : Result Draft Refusal). Tries t c text l r (on_its_line s)) e tries
 
 -- ---- the answers
 
 module _ (t : Tables) (c : Counts) (text : Bytes) (l r : List ℕ) where
-  pub previews_refused : (a : Answer) → Tries t c text l r (Trial.Refused a) → Previews t c text a
-  previews_refused a (Tries.refuses x ne e) =
+  pub previews_refused : (a : Refused) → Tries t c text l r (Err a) → Previews t c text (refusing a)
+  previews_refused a (Tries.refuses x e) =
       record { number = sym (ap (λ (o : Outcome Body). number_in (ruling_of o)) e); line = sym (ap (λ (o : Outcome Body). line_in (ruling_of o)) e) }
 
-  pub previews_passes : (d : Draft) → Tries t c text l r (Trial.Passes d) → Previews t c text (answer 0 1)
+  pub previews_passes : (d : Draft) → Tries t c text l r (Ok d) → Previews t c text (answer 0 1)
   previews_passes d (Tries.passes b q x long opened e tests read) =
       record { number = sym (ap (λ (o : Outcome Body). number_in (ruling_of o)) e); line = sym (ap (λ (o : Outcome Body). line_in (ruling_of o)) e) }
 
-  pub adds_refused : (a : Answer) → Tries t c text l r (Trial.Refused a) → (added : Added) → added ≡ record { answer = a; file = record { counts = c } }
+  pub adds_refused : (a : Refused) → Tries t c text l r (Err a) → (added : Added) → added ≡ record { answer = refusing a; file = record { counts = c } }
       → Adds t c text t added
-  adds_refused a (Tries.refuses x ne e) added is =
+  adds_refused a (Tries.refuses x e) added is =
       subst (Adds t c text t) (sym is) (
       record {
         number = sym (ap (λ (o : Outcome Body). number_in (ruling_of o)) e);
@@ -180,7 +185,7 @@ module _ (t : Tables) (c : Counts) (text : Bytes) (l r : List ℕ) where
         unchanged = λ _. (refl, refl);
       })
 
-  pub adds_passes : (d : Draft) → Tries t c text l r (Trial.Passes d) → (rows left right : List ℕ)
+  pub adds_passes : (d : Draft) → Tries t c text l r (Ok d) → (rows left right : List ℕ)
       → RowStored d c l r t.rows t.left t.right rows left right → (added : Added)
       → added ≡ record { answer = answer 0 1; file = record { counts = count_row c d.left.count d.right.count } }
       → Adds t c text (four t.formulas rows left right) added

@@ -13,7 +13,7 @@ use answers::Answer;
 use counts::Counts;
 use counts::limits::MOST_ON_SIDE;
 use drafts::store::store_row;
-use trial::{Trial, try_row};
+use trial::try_row;
 
 // An open file, by the counts of what its tables hold: handed in and handed back with each row.
 #[repr(C)]
@@ -44,7 +44,7 @@ impl OpenFile {
     {
         let counts = self.counts;
         Added {
-            answer: Answer { number: 0, line: 1 },
+            answer: Answer::accepted(1),
             file: OpenFile {
                 counts: counts.with_row(left, right),
             },
@@ -65,7 +65,7 @@ impl OpenFile {
     {
         let mut l = [0u16; MOST_ON_SIDE];
         let mut r = [0u16; MOST_ON_SIDE];
-        let trial = try_row(
+        let tried = try_row(
             text,
             formulas,
             rows,
@@ -75,9 +75,9 @@ impl OpenFile {
             &mut l,
             &mut r,
         );
-        match trial {
-            Trial::Refused(answer) => answer,
-            Trial::Passes(_) => Answer { number: 0, line: 1 },
+        match tried {
+            Ok(_) => Answer::accepted(1),
+            Err(refused) => Answer::from(refused),
         }
     }
 
@@ -97,15 +97,13 @@ impl OpenFile {
         let counts = self.counts;
         let mut l = [0u16; MOST_ON_SIDE];
         let mut r = [0u16; MOST_ON_SIDE];
-        let trial = try_row(text, formulas, rows, left, right, counts, &mut l, &mut r);
-        match trial {
-            Trial::Refused(answer) => self.refused(answer),
-            Trial::Passes(draft) => {
+        let tried = try_row(text, formulas, rows, left, right, counts, &mut l, &mut r);
+        match tried {
+            Ok(draft) => {
                 store_row(draft, &l, &r, rows, left, right, counts);
-                let antecedent = draft.left;
-                let succedent = draft.right;
-                self.with_row(antecedent.count, succedent.count)
+                self.with_row(draft.left.count, draft.right.count)
             }
+            Err(refused) => self.refused(Answer::from(refused)),
         }
     }
 }

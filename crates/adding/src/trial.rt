@@ -1,86 +1,61 @@
 // A row tried in an open file: 1, then 4 for the open file, then 2, then the row's own numbers with line 1.
 ghost use Rattle.std.specs.Prelude.{◌≡◌};
 ghost use Rattle.bodies.specs.Open.{four};
-ghost use Rattle.adding.specs.Trials.{turned_down_by, not_next, TextJudged, RowTried};
+ghost use Rattle.adding.specs.Trials.{turned_down_by, TextJudged, RowTried};
 
 use crate::reading::read_text;
-use answers::Answer;
 use counts::Counts;
 use counts::lengths::too_short;
 use counts::limits::{LEAST_NAMES, LEAST_NOTES, MOST_BYTES};
-use drafts::{Draft, drafted, is_well};
+use drafts::{Draft, drafted};
 use handed::holds_body;
-use parts::refusals::BAD_LINE;
+use refusals::Refusal;
+use rows::body::Body;
 use rows::row_number;
+use sides::sequents::Sequent;
+use state::Refused;
 use tables::records::ABSENT;
-use text::numbers::Number;
 
-// A row that passes, as it was read, or the answer of a refusal.
-#[derive(Drop)]
-pub(crate) enum Trial {
-    Passes(Draft),
-    Refused(Answer),
-}
-
-fn turned_down(number: u32, line: u32) -> Trial
-    ensures { result ≡ turned_down_by number line }
+fn turned_down(refusal: Refusal, line: u32) -> Result<Draft, Refused>
+    ensures { result ≡ turned_down_by refusal line }
 {
-    Trial::Refused(Answer { number, line })
+    Err(Refused { refusal, line })
 }
 
-// Whether a row's number is not the next one.
-fn is_other(number: Number, held: usize) -> bool
-    ensures { result ≡ not_next number held }
-{
-    match number {
-        Number::Value(n) => n as usize != held,
-        Number::Bad => true,
-    }
-}
-
-// The row of a text, judged by the tables and the notes of a good body. Its sides are read into `l` and `r`.
-fn judge_text<'a>(
+// The row of a text, judged by the tables and the notes of a good body, as it was read if it passes. Its sides are read into `l` and `r`.
+fn judge_text(
     text: &[u8],
-    formulas: &[u16],
-    notes: &[u64],
-    rows: &[u16],
-    left: &'a [u16],
-    right: &'a [u16],
+    body: Body<'_>,
     counts: Counts,
     l: &mut [u16],
     r: &mut [u16],
-) -> Trial
-    ensures { TextJudged (four formulas.now rows.now left.now right.now)
-        notes.now counts text.now l.old r.old l.new r.new result }
+) -> Result<Draft, Refusal>
+    ensures { TextJudged (four body.entry.formulas.now body.entry.rows.now body.entry.left.now body.entry.right.now)
+        body.entry.notes.now counts text.now l.old r.old l.new r.new result }
 {
     let mut above = [ABSENT; 2];
-    let row = read_text(text, &mut above, l, r);
-    if !is_well(row) {
-        return turned_down(BAD_LINE, 1);
-    }
-    let own = row.number;
-    if is_other(own, counts.rows) {
-        return turned_down(4, 1);
+    let Some(row) = read_text(text, &mut above, l, r) else {
+        return Err(Refusal::BadLine);
+    };
+    if row.number as usize != counts.rows {
+        return Err(Refusal::OutOfOrder);
     }
     let draft = drafted(row, above[0], above[1]);
-    let number = row_number(draft, l, r, formulas, notes, rows, left, right, counts);
-    if number != 0 {
-        return turned_down(number, 1);
-    }
-    Trial::Passes(draft)
+    row_number(draft, Sequent { left: l, right: r }, body, counts)?;
+    Ok(draft)
 }
 
 // The row of a text tried in an open file. Its sides are read into `l` and `r`.
-pub(crate) fn try_row<'a>(
+pub(crate) fn try_row(
     text: &[u8],
     formulas: &[u16],
     rows: &[u16],
-    left: &'a [u16],
-    right: &'a [u16],
+    left: &[u16],
+    right: &[u16],
     counts: Counts,
     l: &mut [u16],
     r: &mut [u16],
-) -> Trial
+) -> Result<Draft, Refused>
     ensures { RowTried (four formulas.now rows.now left.now right.now)
         counts text.now l.old r.old l.new r.new result }
 {
@@ -91,14 +66,24 @@ pub(crate) fn try_row<'a>(
         left.len(),
         right.len(),
     ) {
-        return turned_down(1, 0);
+        return turned_down(Refusal::ShortTable, 0);
     }
     let mut notes = [0u64; LEAST_NOTES];
     if !holds_body(formulas, &mut notes, rows, left, right, counts) {
-        return turned_down(4, 0);
+        return turned_down(Refusal::OutOfOrder, 0);
     }
     if MOST_BYTES < text.len() {
-        return turned_down(2, 0);
+        return turned_down(Refusal::TooLong, 0);
     }
-    judge_text(text, formulas, &notes, rows, left, right, counts, l, r)
+    let body = Body {
+        formulas,
+        notes: &notes,
+        rows,
+        left,
+        right,
+    };
+    match judge_text(text, body, counts, l, r) {
+        Ok(draft) => Ok(draft),
+        Err(refusal) => turned_down(refusal, 1),
+    }
 }

@@ -1,10 +1,9 @@
 -- `adding::reading::names_row` meets its contract. Assumes nothing.
-use mathlib.Core.Path.{sym}
-use Rattle.parts.proofs.OneByte.{one_byte, not_one_byte}
+use Rattle.std.proofs.Common.{ap, ◌∙◌, [], ◌∷◌}
+use lib.Dec.{eqb}
+use lib.Pointwise.{pointwise}
+use Rattle.format.proofs.Equal.{same_pointwise}
 use Rattle.adding.proofs.reading.names_row.Goals as goal
 
-pub returns-then-field-eq1 : goal.returns-then-field-eq1
-returns-then-field-eq1 c = sym (one_byte _ 78 c.if-field-eq1.true)
-
-pub returns-else-field-eq1 : goal.returns-else-field-eq1
-returns-else-field-eq1 c = sym (not_one_byte _ 78 c.if-field-eq1.false)
+pub returns : goal.returns
+returns c = c.eq.ensures ∙ ap (pointwise eqb c.args.field.now) c.as_slice.ensures ∙ same_pointwise c.args.field.now (78 ∷ [])

@@ -5,13 +5,11 @@ use Rattle.adding.proofs.reading.read_line.Goals as goal
 
 pub returns-then-not-names_row : goal.returns-then-not-names_row
 returns-then-not-names_row c =
-    none_said _ _ _ _ c.no_row.ensures _
-    (other_kind _ _ c.read_fields-fields.ensures _ c.field.ensures (sym c.names_row.ensures ∙ c.if-not-names_row.true))
+    none_said _ _ _ _ (other_kind _ _ c.read_fields-fields.ensures _ c.field.ensures (sym c.names_row.ensures ∙ c.if-not-names_row.true))
 
 pub returns-then-fields-ne-MOST_FIELDS : goal.returns-then-fields-ne-MOST_FIELDS
 returns-then-fields-ne-MOST_FIELDS c =
-    none_said _ _ _ _ c.no_row-then-fields-ne-MOST_FIELDS.ensures _
-    (miscounted _ _ c.read_fields-fields.ensures _ c.field.ensures (sym c.names_row.ensures ∙ c.if-not-names_row.false)
+    none_said _ _ _ _ (miscounted _ _ c.read_fields-fields.ensures _ c.field.ensures (sym c.names_row.ensures ∙ c.if-not-names_row.false)
     c.if-fields-ne-MOST_FIELDS.true)
 
 pub returns : goal.returns

@@ -13,14 +13,14 @@ use Rattle.adding.proofs.reading.read_text.Goals as goal
 pub returns-then-end-text : goal.returns-then-end-text
 returns-then-end-text c =
     let args = c.args in
-    none_said _ _ _ _ c.no_row.ensures _
+    none_said _ _ _ _
     (λ b. ap (λ (o : Option Line). with_line o b) (no_line args.text.now (omega (arith, c.find-end.ensures, c.if-end-text.true))))
 
 pub returns-then-end-text-2 : goal.returns-then-end-text-2
 returns-then-end-text-2 c =
     let args = c.args in
     let end = c.find-end.ensures in
-    none_said _ _ _ _ c.no_row-then-end-text-2.ensures _
+    none_said _ _ _ _
     (λ b. ap (λ (o : Option Line). with_line o b)
     (more_text args.text.now (omega (arith, end, c.if-end-text.false)) (λ e. c.if-end-text-2.true (omega (arith, end, e)))))
 

@@ -1,36 +1,43 @@
 -- `adding::trial::judge_text` meets its contract: the text, then the number, then the row's tests. Assumes nothing.
-use mathlib.Core.Path.{refl, sym, ◌∙◌}
+use Rattle.std.specs.Prelude.{Result, Err}
+use Rattle.std.proofs.lemmas.Result.{err_from_is_err_and}
+use mathlib.Core.Path.{refl, sym, ap, subst, ◌∙◌}
+use Rattle.refusals.specs.Refusals.{outcome, number_of}
+use Rattle.refusals.specs.declared.Refusal.{Refusal}
+use Rattle.drafts.specs.declared.Draft.{Draft}
 use Rattle.bodies.specs.Open.{four}
+use Rattle.adding.specs.Trials.{TextJudged}
 use Rattle.adding.proofs.Trying.{text_other, text_misplaced, text_refused, text_passes}
 use Rattle.adding.proofs.trial.judge_text.Goals as goal
 
-pub returns-then-not-is_well : goal.returns-then-not-is_well
-returns-then-not-is_well c =
-    let args = c.args in
-    text_other (four args.formulas.now args.rows.now args.left.now args.right.now)
-    args.notes.now args.counts args.text.now _ _ _ _ _ _ _ c.read_text-row.ensures _ c.turned_down.ensures
-    (sym c.is_well.ensures ∙ c.if-not-is_well.true)
+pub returns-in_default : goal.returns-in_default
+returns-in_default c =
+    let body = c.args.body in
+    text_other (four body.formulas.now body.rows.now body.left.now body.right.now)
+    body.notes.now c.args.counts c.args.text.now _ _ _ _ _ _ _ c.read_text.ensures c.in_default.is
 
-pub returns-then-is_other : goal.returns-then-is_other
-returns-then-is_other c =
-    let args = c.args in
-    text_misplaced (four args.formulas.now args.rows.now args.left.now args.right.now)
-    args.notes.now args.counts args.text.now _ _ _ _ _ _ _ c.read_text-row.ensures
-    (sym c.is_well.ensures ∙ c.if-not-is_well.false) refl _ c.turned_down-then-is_other.ensures
-    (sym c.is_other.ensures ∙ c.if-is_other.true)
+pub returns-then-row-counts : goal.returns-then-row-counts
+returns-then-row-counts c =
+    let body = c.args.body in
+    text_misplaced (four body.formulas.now body.rows.now body.left.now body.right.now)
+    body.notes.now c.args.counts c.args.text.now _ _ _ _ _ _ _ c.read_text.ensures _ c.in-Some.is
+    refl c.if-row-counts.true
 
-pub returns-then-number-ne0 : goal.returns-then-number-ne0
-returns-then-number-ne0 c =
-    let args = c.args in
-    text_refused (four args.formulas.now args.rows.now args.left.now args.right.now)
-    args.notes.now args.counts args.text.now _ _ _ _ _ _ _ c.read_text-row.ensures
-    (sym c.is_well.ensures ∙ c.if-not-is_well.false) refl (sym c.is_other.ensures ∙ c.if-is_other.false) _ _ refl refl _
-    c.drafted-draft.ensures _ c.row_number-number.ensures _ c.turned_down-then-number-ne0.ensures c.if-number-ne0.true
+pub returns-in_err-row_number : goal.returns-in_err-row_number
+returns-in_err-row_number c =
+    let body = c.args.body in
+    let failed = err_from_is_err_and c.from_residual.result c.from_residual.ensures.1 in
+    subst (TextJudged (four body.formulas.now body.rows.now body.left.now body.right.now) body.notes.now c.args.counts c.args.text.now _ _ _ _)
+    (sym failed.1)
+    (text_refused (four body.formulas.now body.rows.now body.left.now body.right.now)
+    body.notes.now c.args.counts c.args.text.now _ _ _ _ _ _ _ c.read_text.ensures _ c.in-Some.is
+    refl c.if-row-counts.false _ _ refl refl _
+    c.drafted-draft.ensures _ c.row_number.ensures _ (ap outcome c.in_err-row_number.was ∙ ap number_of (sym failed.2)))
 
 pub returns : goal.returns
 returns c =
-    let args = c.args in
-    text_passes (four args.formulas.now args.rows.now args.left.now args.right.now)
-    args.notes.now args.counts args.text.now _ _ _ _ _ _ _ c.read_text-row.ensures
-    (sym c.is_well.ensures ∙ c.if-not-is_well.false) refl (sym c.is_other.ensures ∙ c.if-is_other.false) _ _ refl refl _
-    c.drafted-draft.ensures _ c.row_number-number.ensures c.if-number-ne0.false
+    let body = c.args.body in
+    text_passes (four body.formulas.now body.rows.now body.left.now body.right.now)
+    body.notes.now c.args.counts c.args.text.now _ _ _ _ _ _ _ c.read_text.ensures _ c.in-Some.is
+    refl c.if-row-counts.false _ _ refl refl _
+    c.drafted-draft.ensures _ c.row_number.ensures (ap outcome c.in_ok-row_number.was)
