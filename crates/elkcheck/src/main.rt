@@ -1,8 +1,9 @@
-// Judges standard input: reads it to its end and prints refusal number, tab, line and line feed. Started with the word `words`
-// it prints the rows of an accepted file in words instead. Started with `try` and a number it opens a beginning of so many bytes, and
-// tries the row that follows it: the answer of opening, and where that is 0 a second line with the row's. If reading or writing fails
-// it ends with that error, which is said on standard error, and a failed read leaves standard output empty: trouble never looks like a
-// verdict. A failed write may leave some sentences.
+// Judges standard input: reads it to its end and prints refusal number, tab, line and line feed. Started with the
+// word `words` it prints the rows of an accepted file in words instead. Started with `try` and a number it opens a
+// beginning of so many bytes, and tries the row that follows it: the answer of opening, and where that is 0 a second
+// line with the row's. If reading or writing fails it ends with that error, which is said on standard error, and a
+// failed read leaves standard output empty: trouble never looks like a verdict. A failed write may leave some
+// sentences.
 #![tactic(auto)]
 
 ghost use Rattle.std.specs.Prelude.{◌≤◌, length, IfOk};
@@ -12,14 +13,14 @@ use answers::Answer;
 use counts::limits::{LEAST_FORMULAS, LEAST_NAMES, LEAST_ROWS, MOST_ENTRIES};
 use govelamuth::elk_check;
 use opening::open;
-use parts::find;
 use std::env::Env;
 use std::io;
 use std::io::{Read, Write};
 use tell::tell;
-use text::numbers::{Number, read_number};
+use text::numbers::read_number;
 
-// Reads until the buffer is full or the input ends, and tells how many bytes that brought.
+// Reads until the buffer is full or the input ends, and tells how many bytes that brought. There is no heap, and the
+// library reads an input to its end into a `Vec` alone.
 fn fill<R: Read>(input: &mut R, buffer: &mut [u8]) -> io::Result<usize>
     ensures { IfOk result (λ n. n ≤ length buffer.new) }
 {
@@ -34,19 +35,8 @@ fn fill<R: Read>(input: &mut R, buffer: &mut [u8]) -> io::Result<usize>
     Ok(at)
 }
 
-// Reads the rest of the input. A loop has to end, and nothing says that an input does: so it counts its turns, up to a number that
-// no run reaches.
-fn drain<R: Read>(input: &mut R, buffer: &mut [u8]) -> io::Result<()> {
-    for _turn in 0..u64::MAX {
-        if input.read(buffer)? == 0 {
-            return Ok(());
-        }
-    }
-    Err(io::Error::from(io::ErrorKind::Other))
-}
-
-// Reads the whole input and tells how many bytes of it the buffer holds. One that fills the buffer is read on to its end; the buffer
-// keeps what came first.
+// Reads the whole input and tells how many bytes of it the buffer holds. One that fills the buffer is read on to its
+// end; the buffer keeps what came first.
 fn read_all<R: Read>(input: &mut R, buffer: &mut [u8]) -> io::Result<usize>
     ensures { IfOk result (λ n. n ≤ length buffer.new) }
 {
@@ -54,14 +44,12 @@ fn read_all<R: Read>(input: &mut R, buffer: &mut [u8]) -> io::Result<usize>
     if held < buffer.len() {
         return Ok(held);
     }
-    let mut rest = [0u8; 4096];
-    drain(input, &mut rest)?;
+    io::copy(input, &mut io::sink())?;
     Ok(held)
 }
 
 fn print(rt: &impl Print, answer: Answer) -> io::Result<()> {
-    let number = answer.number;
-    let line = answer.line;
+    let Answer { number, line } = answer;
     println!(rt; "{number}\t{line}")
 }
 
@@ -69,23 +57,41 @@ fn print(rt: &impl Print, answer: Answer) -> io::Result<()> {
 fn argument(env: &impl Env, i: usize, buffer: &mut [u8]) -> usize
     ensures { result ≤ length buffer.new }
 {
-    match env.arg(i, buffer) {
-        Ok(n) => n,
-        Err(_) => 0,
-    }
+    env.arg(i, buffer).unwrap_or(0)
 }
 
-// Whether the program was started with the word `words`.
-fn wants_words(env: &impl Env) -> bool {
+// What the program is to do with its input: judge it, tell its rows in words, or open so many bytes of it and try the
+// row after them.
+#[derive(Clone, Copy)]
+enum Command {
+    Judge,
+    Tell,
+    Try(usize),
+}
+
+// The number that the second word is. One of over five digits counts as the most of five, since both are longer than
+// any text; so does a word that is no number, or is missing.
+fn beginning_length(env: &impl Env) -> usize {
+    let mut word = [0u8; 5];
+    let length = argument(env, 2, &mut word);
+    read_number(&word[..length]).map_or(99999, |n| n as usize)
+}
+
+// The command by the first word, which has room for one byte more than the longest that counts.
+fn read_command(env: &impl Env) -> Command {
     let mut word = [0u8; 6];
     let length = argument(env, 1, &mut word);
-    &word[..length] == b"words".as_slice()
+    match &word[..length] {
+        b"words" => Command::Tell,
+        b"try" => Command::Try(beginning_length(env)),
+        _ => Command::Judge,
+    }
 }
 
 // Prints a lent text up to the zeros after what it holds.
 fn print_held(rt: &impl Print, held: &[u8]) -> io::Result<()> {
-    let end = find(held, 0, 0);
-    io::writer(rt).write_all(&held[..end])
+    let end = held.iter().position(|&byte| byte == 0);
+    io::writer(rt).write_all(&held[..end.unwrap_or(held.len())])
 }
 
 // The most bytes of sentences that are printed: 1 MiB.
@@ -113,25 +119,6 @@ fn print_words(rt: &impl Print, text: &[u8]) -> io::Result<()> {
     print_held(rt, &words)
 }
 
-// Whether the program was started with the word `try`.
-fn wants_trial(env: &impl Env) -> bool {
-    let mut word = [0u8; 4];
-    let length = argument(env, 1, &mut word);
-    &word[..length] == b"try".as_slice()
-}
-
-// The number that the second word is. One of over five digits counts as the most of five, since both are longer than any text; so does a
-// word that is no number, or is missing.
-fn beginning_length(env: &impl Env) -> usize {
-    let mut word = [0u8; 5];
-    let length = argument(env, 2, &mut word);
-    let number = read_number(&word[..length]);
-    match number {
-        Number::Value(n) => n as usize,
-        Number::Bad => 99999,
-    }
-}
-
 // The answer to a beginning and, where that is 0, the answer to the row.
 fn print_both(rt: &impl Print, beginning: &[u8], row: &[u8]) -> io::Result<()> {
     let mut names = [0u16; LEAST_NAMES];
@@ -147,35 +134,32 @@ fn print_both(rt: &impl Print, beginning: &[u8], row: &[u8]) -> io::Result<()> {
         &mut left,
         &mut right,
     );
-    let answer = opened.answer;
-    print(rt, answer)?;
-    if answer.number != 0 {
+    print(rt, opened.answer)?;
+    if opened.answer.number != 0 {
         return Ok(());
     }
-    let counts = opened.counts;
-    let file = OpenFile { counts };
+    let file = OpenFile {
+        counts: opened.counts,
+    };
     print(rt, file.preview(row, &formulas, &rows, &left, &right))
 }
 
 // A text of a beginning, of so many bytes, and a row.
 fn print_trial(rt: &impl Print, text: &[u8], length: usize) -> io::Result<()> {
-    if text.len() < length {
-        return print_both(rt, text, &text[..0]);
-    }
-    print_both(rt, &text[..length], &text[length..])
+    let (beginning, row) = text.split_at(length.min(text.len()));
+    print_both(rt, beginning, row)
 }
 
 fn answer<R: Print + Env>(rt: &R, text: &[u8]) -> io::Result<()> {
-    if wants_words(rt) {
-        return print_words(rt, text);
+    match read_command(rt) {
+        Command::Judge => print(rt, elk_check(text)),
+        Command::Tell => print_words(rt, text),
+        Command::Try(length) => print_trial(rt, text, length),
     }
-    if wants_trial(rt) {
-        return print_trial(rt, text, beginning_length(rt));
-    }
-    print(rt, elk_check(text))
 }
 
-// The buffer has room for two texts, each with one byte more than a text may have, so that one which is cut off is judged too long.
+// The buffer has room for two texts, each with one byte more than a text may have, so that one which is cut off is
+// judged too long.
 fn main(rt: HostRuntime) -> io::Result<()> {
     let mut buffer = [0u8; 131074];
     let n = read_all(&mut rt.stdin(), &mut buffer)?;
