@@ -17,7 +17,8 @@ fn within(counts: Counts) -> bool
         && counts.right <= MOST_ENTRIES
 }
 
-// Whether nothing but zero stands in a table from a place on. Every number is looked at, so that many can be compared at once.
+// Whether nothing but zero stands in a table from a place on. Every number is looked at, so that many can be compared at once; `all` would
+// end at the first that is not zero.
 fn zeros_from(table: &[u16], from: usize) -> bool
     ensures { result ≡ zeros_from from table.now }
 {

@@ -26,7 +26,7 @@ pub fn note(notes: &[u64], at: usize) -> u64
     notes.get(at).copied().unwrap_or(0)
 }
 
-// Stores a note where the table has room for it.
+// Stores a note where the table has room for it: by its index, as after a write through `get_mut` a proof knows no more than the length.
 pub fn put_note(notes: &mut [u64], at: usize, note: u64)
     ensures { notes.new ≡ set notes.old at note }
 {

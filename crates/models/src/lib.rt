@@ -87,7 +87,7 @@ fn in_equilibrium(formulas: &[u16], sheet: &[u16], model: u64) -> bool
     tested_with(formulas, sheet, model, &mut there, &mut here)
 }
 
-// The model that is lent with a claim, if there is one, against what the claim wants: the first of the numbers 15, 16 and 17 that applies.
+// The model beside a claim, if there is one, against what the claim wants: the first of 15, 16 and 17 that applies.
 pub fn model_number(
     formulas: &[u16],
     left: &[u16],

@@ -1,8 +1,6 @@
 // The parts of a text that separators bound, and the fields of a line.
 #![tactic(auto)]
 
-pub mod refusals;
-
 ghost use Rattle.std.specs.Prelude.{◌≡◌, true, ◌+◌, ◌≤◌, length};
 ghost use Rattle.format.specs.Text.{tab, is};
 ghost use Rattle.parts.specs.Parts.{next_at, Fielded, FieldPart};

@@ -15,6 +15,7 @@ use counts::limits::ROW_WIDTH;
 use records::part;
 
 // The antecedent (left) or succedent (right) of a row, as the part of its pool; empty where the row or the part lies outside.
+// A flag says which: who fetches asks for both, and a type for it would be named at each call as the flag is.
 pub fn fetch<'a>(
     rows: &[u16],
     left: &'a [u16],

@@ -14,8 +14,8 @@ ghost use Rattle.writer.specs.Putting.{Puts};
 // A lent text that is written up to this byte; or there was no room.
 #[derive(Drop)]
 pub struct Writer<'a> {
-    out: &'a mut [u8],
-    end: Option<usize>,
+    pub out: &'a mut [u8],
+    pub end: Option<usize>,
 }
 
 impl<'a> Writer<'a> {

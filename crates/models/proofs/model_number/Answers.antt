@@ -17,13 +17,15 @@ module _ {formulas left right : List ℕ} {lent : Option ℕ} (number : ℕ) whe
   of_model e h = subst (λ (m : Option ℕ). ModelNumbered formulas left right (is_some m) (unwrap_or m 0) number) (sym e) h
 
 pub returns-then-contradiction : goal.returns-then-contradiction
-returns-then-contradiction c = of_model 0 c.in_default.is (none_wanted _ _ _ _ _ (lit< tt) refl (sym c.only_falsum-contradiction.ensures ∙ c.if-contradiction.true))
+returns-then-contradiction c =
+    of_model 0 c.in_default.is (none_wanted _ _ _ _ _ (lit< tt) refl (sym c.only_falsum-contradiction.ensures ∙ c.if-contradiction.true))
 
 pub returns-in_default : goal.returns-in_default
 returns-in_default c = of_model 15 c.in_default.is (missing _ _ _ _ _ (lit< tt) refl (sym c.only_falsum-contradiction.ensures ∙ c.if-contradiction.false))
 
 pub returns-then-contradiction-2 : goal.returns-then-contradiction-2
-returns-then-contradiction-2 c = of_model 15 c.in-Some.is (unwanted _ _ _ _ _ (search rules) refl (sym c.only_falsum-contradiction.ensures ∙ c.if-contradiction-2.true))
+returns-then-contradiction-2 c =
+    of_model 15 c.in-Some.is (unwanted _ _ _ _ _ (search rules) refl (sym c.only_falsum-contradiction.ensures ∙ c.if-contradiction-2.true))
 
 pub returns-then-count-gt-MOST_IN_MODEL : goal.returns-then-count-gt-MOST_IN_MODEL
 returns-then-count-gt-MOST_IN_MODEL c =

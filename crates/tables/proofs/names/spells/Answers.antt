@@ -30,4 +30,5 @@ module _ (text name : List ℕ) (start len : ℕ) where
 
 pub returns : goal.returns
 returns c =
-    answered c.args.text.now c.args.name.now c.args.start c.args.len _ _ _ _ _ c.get.ensures.lookup c.is_some_and.ensures (λ x k. rw (← same_pointwise x.now c.args.name.now) (search rules)) c.from-from.ensures (omega arith)
+    answered c.args.text.now c.args.name.now c.args.start c.args.len _ _ _ _ _ c.get.ensures.lookup c.is_some_and.ensures
+    (λ x k. rw (← same_pointwise x.now c.args.name.now) (search rules)) c.from-from.ensures (omega arith)
