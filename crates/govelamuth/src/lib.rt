@@ -10,6 +10,7 @@ ghost use Rattle.tell.specs.Contract.{Tells};
 use answers::Answer;
 use counts::limits::{LEAST_FORMULAS, LEAST_NAMES, LEAST_ROWS, MOST_ENTRIES};
 use judge::judge;
+use run::lent::Tables;
 use tell::tell;
 
 // The answer to a text, with tables of its own.
@@ -23,11 +24,13 @@ pub fn elk_check(text: &[u8]) -> Answer
     let mut right = [0u16; MOST_ENTRIES];
     judge(
         text,
-        &mut names,
-        &mut formulas,
-        &mut rows,
-        &mut left,
-        &mut right,
+        &mut Tables {
+            names: &mut names,
+            formulas: &mut formulas,
+            rows: &mut rows,
+            left: &mut left,
+            right: &mut right,
+        },
     )
     .answer
 }
@@ -45,7 +48,14 @@ pub fn elk_judge(
         (lengths (five names.old formulas.old rows.old left.old right.old))
         (five names.new formulas.new rows.new left.new right.new) result }
 {
-    judge(text, names, formulas, rows, left, right).answer
+    let mut lent = Tables {
+        names,
+        formulas,
+        rows,
+        left,
+        right,
+    };
+    judge(text, &mut lent).answer
 }
 
 // The same, with the rows of the accepted file in words in the lent text.
@@ -63,5 +73,12 @@ pub fn elk_words(
         (length words.old)
         (five names.new formulas.new rows.new left.new right.new) words.new result }
 {
-    tell(text, names, formulas, rows, left, right, words)
+    let mut lent = Tables {
+        names,
+        formulas,
+        rows,
+        left,
+        right,
+    };
+    tell(text, &mut lent, words)
 }

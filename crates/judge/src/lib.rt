@@ -4,34 +4,16 @@
 
 ghost use Rattle.std.specs.Prelude.{◌≡◌, false};
 ghost use Rattle.format.specs.Tables.{too_short};
-ghost use Rattle.run.specs.Lent.{five, lengths, clear, Zeros};
+ghost use Rattle.run.specs.Lent.{lengths, held, Same, Zeros};
 ghost use Rattle.judge.specs.Contract.{judged_by, JudgesFile};
 
 use answers::{Accepted, Answer, finish};
 use counts::Counts;
-use counts::lengths::too_short;
 use counts::limits::LEAST_NOTES;
 use refusals::Refusal;
+use run::lent::Tables;
 use run::run;
 use state::Refused;
-
-// Zeros through every table.
-pub fn clear_all(
-    names: &mut [u16],
-    formulas: &mut [u16],
-    rows: &mut [u16],
-    left: &mut [u16],
-    right: &mut [u16],
-)
-    ensures { five names.new formulas.new rows.new left.new right.new
-        ≡ clear (lengths (five names.old formulas.old rows.old left.old right.old)) }
-{
-    names.fill(0);
-    formulas.fill(0);
-    rows.fill(0);
-    left.fill(0);
-    right.fill(0);
-}
 
 // The answer, and the counts of the file that the tables hold; of none where the text is refused.
 #[repr(C)]
@@ -59,56 +41,33 @@ impl From<Result<Accepted, Refused>> for Judged {
 }
 
 // A text run into clear tables of full length, which are clear again if it is refused.
-fn run_or_clear(
-    text: &[u8],
-    names: &mut [u16],
-    formulas: &mut [u16],
-    rows: &mut [u16],
-    left: &mut [u16],
-    right: &mut [u16],
-) -> Judged
-    requires { (too_short (lengths (five names.old formulas.old rows.old left.old right.old)) ≡ false)
-        × Zeros (five names.old formulas.old rows.old left.old right.old) }
-    ensures { JudgesFile text.now
-        (lengths (five names.old formulas.old rows.old left.old right.old))
-        (five names.new formulas.new rows.new left.new right.new) result }
+fn run_or_clear(text: &[u8], lent: &mut Tables) -> Judged
+    requires { (too_short (lengths (held lent.old)) ≡ false) × Zeros (held lent.old) }
+    ensures same { Same lent.old lent.new }
+    ensures judges { JudgesFile text.now (lengths (held lent.old)) (held lent.new) result }
 {
     let mut notes = [0u64; LEAST_NOTES];
-    let ran = run(text, names, formulas, &mut notes, rows, left, right);
+    let ran = run(text, lent, &mut notes);
     let end = finish(text, ran);
     if end.is_err() {
-        clear_all(names, formulas, rows, left, right);
+        lent.clear();
     }
     Judged::from(end)
 }
 
 // The answer to a text, with the file in the lent tables if it is accepted and zeros through all of them if it is refused.
 // The tables may have any length and hold anything before.
-pub fn judge(
-    text: &[u8],
-    names: &mut [u16],
-    formulas: &mut [u16],
-    rows: &mut [u16],
-    left: &mut [u16],
-    right: &mut [u16],
-) -> Judged
-    ensures { JudgesFile text.now
-        (lengths (five names.old formulas.old rows.old left.old right.old))
-        (five names.new formulas.new rows.new left.new right.new) result }
+pub fn judge(text: &[u8], lent: &mut Tables) -> Judged
+    ensures same { Same lent.old lent.new }
+    ensures judges { JudgesFile text.now (lengths (held lent.old)) (held lent.new) result }
 {
-    let short = too_short(
-        names.len(),
-        formulas.len(),
-        rows.len(),
-        left.len(),
-        right.len(),
-    );
-    clear_all(names, formulas, rows, left, right);
+    let short = lent.are_too_short();
+    lent.clear();
     if short {
         return Judged::from(Err(Refused {
             refusal: Refusal::ShortTable,
             line: 0,
         }));
     }
-    run_or_clear(text, names, formulas, rows, left, right)
+    run_or_clear(text, lent)
 }

@@ -1,10 +1,13 @@
 // The complete lines of a text judged one after the other, each into the lent tables, up to the first one that is refused.
 #![tactic(auto)]
 
+pub mod lent;
+
 ghost use Rattle.std.specs.Prelude.{◌≡◌};
-ghost use Rattle.state.specs.State.{tables};
+ghost use Rattle.run.specs.Lent.{held_with, Same};
 ghost use Rattle.run.specs.Running.{RunOver};
 
+use crate::lent::Tables;
 use counts::limits::MOST_BYTES;
 use lines::step_line;
 use parts::find;
@@ -37,18 +40,9 @@ impl From<Stopped> for Refused {
 
 // The tables are to be clear and of full length, and so are the notes on the formulas. A text of more than 65,536
 // bytes is not read: its lines could be more than a count of them holds.
-pub fn run(
-    text: &[u8],
-    names: &mut [u16],
-    formulas: &mut [u16],
-    notes: &mut [u64],
-    rows: &mut [u16],
-    left: &mut [u16],
-    right: &mut [u16],
-) -> Result<Ran, Stopped>
-    ensures { RunOver text.now result
-        (tables names.old formulas.old notes.old rows.old left.old right.old)
-        (tables names.new formulas.new notes.new rows.new left.new right.new) }
+pub fn run(text: &[u8], lent: &mut Tables, notes: &mut [u64]) -> Result<Ran, Stopped>
+    ensures same { Same lent.old lent.new }
+    ensures over { RunOver text.now result (held_with lent.old notes.old) (held_with lent.new notes.new) }
 {
     let mut state = State::start();
     let mut at = 0;
@@ -64,7 +58,17 @@ pub fn run(
     // A while: the tables keep where in the text a name stands, so a line is judged by its place, which no iterator of lines gives.
     while end < text.len() {
         let stepped = step_line(
-            text, at, end, line, names, formulas, notes, rows, left, right, state,
+            text,
+            at,
+            end,
+            line,
+            lent.names,
+            lent.formulas,
+            notes,
+            lent.rows,
+            lent.left,
+            lent.right,
+            state,
         );
         match stepped {
             Ok(next) => state = next,

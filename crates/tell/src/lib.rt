@@ -2,14 +2,15 @@
 #![tactic(auto)]
 
 ghost use Rattle.std.specs.Prelude.{length};
-ghost use Rattle.run.specs.Lent.{five, lengths};
+ghost use Rattle.run.specs.Lent.{held, lengths, Same};
 ghost use Rattle.sentences.specs.Books.{sentences_in};
 ghost use Rattle.tell.specs.Contract.{PutsWords, Tells};
 
 use answers::Answer;
-use judge::{clear_all, judge};
+use judge::judge;
 use phrases::Sheet;
 use refusals::Refusal;
+use run::lent::Tables;
 use sentences::Book;
 use tables::records::narrow_place;
 use writer::pad;
@@ -26,22 +27,12 @@ fn put_words(book: Book, count: u16, words: &mut [u8]) -> bool
 
 // The answer to a text. If it is accepted and there is room, the file is in the lent tables and the sentences of its
 // rows are in the lent text, with zeros after each; else all of them are zero. They may have any length and hold
-// anything before. The tables are lent one by one, as in C.
-pub fn tell(
-    text: &[u8],
-    names: &mut [u16],
-    formulas: &mut [u16],
-    rows: &mut [u16],
-    left: &mut [u16],
-    right: &mut [u16],
-    words: &mut [u8],
-) -> Answer
-    ensures { Tells text.now
-        (lengths (five names.old formulas.old rows.old left.old right.old))
-        (length words.old)
-        (five names.new formulas.new rows.new left.new right.new) words.new result }
+// anything before.
+pub fn tell(text: &[u8], lent: &mut Tables, words: &mut [u8]) -> Answer
+    ensures same { Same lent.old lent.new }
+    ensures tells { Tells text.now (lengths (held lent.old)) (length words.old) (held lent.new) words.new result }
 {
-    let judged = judge(text, names, formulas, rows, left, right);
+    let judged = judge(text, lent);
     let answer = judged.answer;
     if answer.number != 0 {
         pad(words, None);
@@ -51,17 +42,17 @@ pub fn tell(
     let book = Book {
         sheet: Sheet {
             text,
-            names,
-            formulas,
+            names: lent.names,
+            formulas: lent.formulas,
         },
-        rows,
-        left,
-        right,
+        rows: lent.rows,
+        left: lent.left,
+        right: lent.right,
     };
     if put_words(book, count, words) {
         return answer;
     }
-    clear_all(names, formulas, rows, left, right);
+    lent.clear();
     Answer {
         number: Refusal::NoRoom.number(),
         line: 0,

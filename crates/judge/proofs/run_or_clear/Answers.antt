@@ -1,20 +1,18 @@
 -- `judge::run_or_clear` meets its contract: the tables stay where the run accepts, and are clear where it refuses.
-use mathlib.Core.Path.{refl, sym, ◌∙◌}
-use Rattle.run.specs.Lent.{five}
+use mathlib.Core.Path.{refl, sym, ap, ◌∙◌}
+use Rattle.run.specs.Lent.{held}
 use Rattle.judge.proofs.Whole.{fresh_tables, judges_kept, judges_again_clear}
 use Rattle.judge.proofs.run_or_clear.Goals as goal
 use Rattle.judge.proofs.run_or_clear.Goals.{then-is_err, else-is_err}
 
-pub returns : goal.returns
-returns c =
+pub returns-clause-judges : goal.returns-clause-judges
+returns-clause-judges c =
     let fresh = fresh_tables _ c.requires.0 c.requires.1 refl in
     elim c.if-is_err.branch [
       | then-is_err w ↦
-          judges_again_clear c.requires.0 fresh c.run-ran.ensures c.finish-end.ensures c.from.ensures
-          (sym c.is_err.ensures.value ∙ w.if-is_err.true)
-          ((λ i. five (w.names-is i) (w.formulas-is i) (w.rows-is i) (w.left-is i) (w.right-is i)) ∙ w.clear_all.ensures)
+          judges_again_clear c.requires.0 fresh c.run-ran.ensures.over c.finish-end.ensures c.from.ensures
+          (sym c.is_err.ensures.value ∙ w.if-is_err.true) (ap held w.lent-is ∙ w.clear.ensures.cleared)
       | else-is_err w ↦
-          judges_kept c.requires.0 fresh c.run-ran.ensures c.finish-end.ensures c.from.ensures
-          (sym c.is_err.ensures.value ∙ w.if-is_err.false)
-          (λ i. five (w.names-is i) (w.formulas-is i) (w.rows-is i) (w.left-is i) (w.right-is i))
+          judges_kept c.requires.0 fresh c.run-ran.ensures.over c.finish-end.ensures c.from.ensures
+          (sym c.is_err.ensures.value ∙ w.if-is_err.false) (ap held w.lent-is)
     ]

@@ -1,12 +1,14 @@
--- `run::run` meets its contract: the loop keeps `Reached`, and each return is one of its laws.
+-- `run::run` meets its contract: the loop keeps `Reached`, in the tables that were lent.
 use Prim.Native.Nat.{◌-◌}
 use lib.ListN.{length}
-use Rattle.state.specs.State.{tables}
+use Rattle.run.specs.Lent.{held_with, Same}
 use Rattle.run.proofs.Running.{Reached}
 use Rattle.run.proofs.run.Given as goal
 
 abbrev pub invariant-loop-end : goal.invariant-loop-end
-invariant-loop-end l = Reached l.text (tables l.initial.names l.initial.formulas l.initial.notes l.initial.rows l.initial.left l.initial.right) l.line l.at l.end l.state (tables l.names l.formulas l.notes l.rows l.left l.right)
+invariant-loop-end l =
+    Same l.initial.lent l.lent
+    × Reached l.text (held_with l.initial.lent l.initial.notes) l.line l.at l.end l.state (held_with l.lent l.notes)
 
 abbrev pub decreases-loop-end : goal.decreases-loop-end
 decreases-loop-end l = length l.text - l.at
