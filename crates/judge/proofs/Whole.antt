@@ -21,7 +21,7 @@ use Rattle.format.proofs.Accepted.{accepted_holds, accepted_shown}
 use Rattle.refusals.specs.Refusals.{number_of}
 use Rattle.refusals.specs.declared.Refusal.TheVariants.{TooLong}
 use Rattle.refusals.proofs.OneNumber.{number_of-some}
-use Rattle.state.specs.State.{Full, Memory}
+use Rattle.state.specs.State.{Full, Memory, SameLengths}
 use Rattle.state.specs.declared.Refused.{Refused}
 use Rattle.run.specs.Lent.{five, five_of, lengths, clear, Zeros}
 use Rattle.run.specs.Running.{Fresh, RunOver}
@@ -137,6 +137,11 @@ module _ (P : Contents → Judged → Type 0) {t : Contents} {judged : Judged} w
   promised_clear (Ok a) u p given failed same = cc
   promised_clear (Err e) u p given failed same = subst (P t) (sym given) (subst (λ (v : Contents). P v (judged_by (Err e))) (sym same) p)
 
+-- the lengths of the lent tables are kept where those of a memory are
+pub kept_lengths : {t u : Memory} → SameLengths t u → lengths (five_of u) ≡ lengths (five_of t)
+kept_lengths kept =
+    λ i. record { names = kept.names i; formulas = kept.formulas i; rows = kept.rows i; left = kept.left i; right = kept.right i }
+
 -- the run over a text in fresh tables, and what it ends with
 module _ {text : Bytes} {ran : Result Ran Stopped} {before after : Memory} (enough : too_short (lengths (five_of before)) ≡ false)
     (fresh : Fresh before) (over : RunOver text ran before after) where
@@ -145,9 +150,7 @@ module _ {text : Bytes} {ran : Result Ran Stopped} {before after : Memory} (enou
 
   same : lengths (five_of after) ≡ lent
   unfolding lent
-  same =
-      let kept = over.lengths in
-      λ i. record { names = kept.names i; formulas = kept.formulas i; rows = kept.rows i; left = kept.left i; right = kept.right i }
+  same = kept_lengths over.lengths
 
   -- what the definition says of an end
   abbrev Judging : Result Accepted Refused → Type 0

@@ -44,6 +44,7 @@ impl From<Result<Accepted, Refused>> for Judged {
 fn run_or_clear(text: &[u8], lent: &mut Tables) -> Judged
     requires { (too_short (lengths (held lent.old)) ≡ false) × Zeros (held lent.old) }
     ensures same { Same lent.old lent.new }
+    ensures lengths { lengths (held lent.new) ≡ lengths (held lent.old) }
     ensures judges { JudgesFile text.now (lengths (held lent.old)) (held lent.new) result }
 {
     let mut notes = [0u64; LEAST_NOTES];
@@ -59,6 +60,7 @@ fn run_or_clear(text: &[u8], lent: &mut Tables) -> Judged
 // The tables may have any length and hold anything before.
 pub fn judge(text: &[u8], lent: &mut Tables) -> Judged
     ensures same { Same lent.old lent.new }
+    ensures lengths { lengths (held lent.new) ≡ lengths (held lent.old) }
     ensures judges { JudgesFile text.now (lengths (held lent.old)) (held lent.new) result }
 {
     let short = lent.are_too_short();

@@ -127,10 +127,3 @@ module _ {text : Bytes} {lent : Lent} {t : Contents} {r : Judged} (j : JudgesFil
             claim_holds = λ z. absurd (omega (arith, f, z));
             claim_shown = λ z. absurd (omega (arith, f, z));
           }
-
-abbrev lent_of : ℕ → ℕ → ℕ → ℕ → ℕ → Lent
-lent_of names formulas rows left right = record { names = names; formulas = formulas; rows = rows; left = left; right = right }
-
--- the same lengths, one by one
-pub same_lengths : {n f r l g n' f' r' l' g' : ℕ} → n ≡ n' → f ≡ f' → r ≡ r' → l ≡ l' → g ≡ g' → lent_of n f r l g ≡ lent_of n' f' r' l' g'
-same_lengths a b c d e = λ i. lent_of (a i) (b i) (c i) (d i) (e i)

@@ -5,7 +5,12 @@ use Rattle.format.specs.Tables.{Contents, Lent, padded}
 use Rattle.format.specs.Judged.{number_in, line_in, ClaimFails, ClaimShown}
 use Rattle.answers.specs.Answers.{filled}
 use Rattle.answers.specs.declared.Answer.{Answer}
+use Rattle.sentences.specs.Sentences.{table_sentences}
 use Rattle.words.specs.Call.{words_judged, words_left, words_contents}
+
+-- the sentences of the first rows of these tables
+abbrev pub sentences_of : Bytes → Contents → ℕ → Bytes
+sentences_of text t count = table_sentences text t.names t.formulas t.rows t.left t.right 0 count
 
 -- words and zeros after them in a lent text of this length where they fit, and zeros alone where they do not
 pub record PutsWords (words : Bytes) (space : ℕ) (text : Bytes) (fit : Bool) : Type 0 where

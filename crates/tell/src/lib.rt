@@ -3,8 +3,7 @@
 
 ghost use Rattle.std.specs.Prelude.{length};
 ghost use Rattle.run.specs.Lent.{held, lengths, Same};
-ghost use Rattle.sentences.specs.Books.{sentences_in};
-ghost use Rattle.tell.specs.Contract.{PutsWords, Tells};
+ghost use Rattle.tell.specs.Contract.{sentences_of, PutsWords, Tells};
 
 use answers::Answer;
 use judge::judge;
@@ -15,11 +14,21 @@ use sentences::Book;
 use tables::records::narrow_place;
 use writer::pad;
 
-// The sentences of the first `count` rows, with zeros after them, and whether there is room; zeros alone where there
-// is none.
-fn put_words(book: Book, count: u16, words: &mut [u8]) -> bool
-    ensures { PutsWords (sentences_in book.entry 0 count) (length words.old) words.new result }
+// The sentences of the first `count` rows of the lent tables, with zeros after them, and whether there is room; zeros alone
+// where there is none.
+fn put_words(text: &[u8], lent: &Tables, count: u16, words: &mut [u8]) -> bool
+    ensures { PutsWords (sentences_of text.now (held lent.now) count) (length words.old) words.new result }
 {
+    let book = Book {
+        sheet: Sheet {
+            text,
+            names: lent.names,
+            formulas: lent.formulas,
+        },
+        rows: lent.rows,
+        left: lent.left,
+        right: lent.right,
+    };
     let end = book.put_sentences(count, words);
     pad(words, end);
     end.is_some()
@@ -39,17 +48,7 @@ pub fn tell(text: &[u8], lent: &mut Tables, words: &mut [u8]) -> Answer
         return answer;
     }
     let count = narrow_place(judged.counts.rows);
-    let book = Book {
-        sheet: Sheet {
-            text,
-            names: lent.names,
-            formulas: lent.formulas,
-        },
-        rows: lent.rows,
-        left: lent.left,
-        right: lent.right,
-    };
-    if put_words(book, count, words) {
+    if put_words(text, lent, count, words) {
         return answer;
     }
     lent.clear();

@@ -7,6 +7,12 @@ use Rattle.judge.specs.Contract.{JudgesFile}
 use Rattle.judge.proofs.Whole.{judged_short, judges_cleared, judges_same, clear_lengths, clear_zeros}
 use Rattle.judge.proofs.judge.Goals as goal
 
+pub returns-then-short-clause-lengths : goal.returns-then-short-clause-lengths
+returns-then-short-clause-lengths c = clear_lengths _ _ c.clear.ensures.cleared
+
+pub returns-clause-lengths : goal.returns-clause-lengths
+returns-clause-lengths c = c.run_or_clear.ensures.lengths ∙ clear_lengths _ _ c.clear.ensures.cleared
+
 pub returns-then-short-clause-judges : goal.returns-then-short-clause-judges
 returns-then-short-clause-judges c =
     let args = c.args in

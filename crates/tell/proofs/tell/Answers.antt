@@ -19,4 +19,4 @@ returns-clause-tells c =
     let judges = c.judge-judged.ensures.judges in
     let fine = c.if-answer-ne0.false in
     let put = puts_file (judges.filed fine) c.narrow_place-count.ensures c.put_words.ensures in
-    tells_no_room judges _ fine put c.number.ensures c.if-put_words.false (c.clear.ensures.cleared ∙ ap clear same)
+    tells_no_room judges _ fine put c.number.ensures c.if-put_words.false (c.clear.ensures.cleared ∙ ap clear c.judge-judged.ensures.lengths)
