@@ -13,6 +13,7 @@ use answers::Answer;
 use counts::limits::{LEAST_FORMULAS, LEAST_NAMES, LEAST_ROWS, MOST_ENTRIES};
 use govelamuth::elk_check;
 use opening::open;
+use run::lent::Tables;
 use std::env::Env;
 use std::io;
 use std::io::{Read, Write};
@@ -104,15 +105,14 @@ fn print_words(rt: &impl Print, text: &[u8]) -> io::Result<()> {
     let mut left = [0u16; MOST_ENTRIES];
     let mut right = [0u16; MOST_ENTRIES];
     let mut words = [0u8; MOST_PRINTED];
-    let answer = tell(
-        text,
-        &mut names,
-        &mut formulas,
-        &mut rows,
-        &mut left,
-        &mut right,
-        &mut words,
-    );
+    let mut lent = Tables {
+        names: &mut names,
+        formulas: &mut formulas,
+        rows: &mut rows,
+        left: &mut left,
+        right: &mut right,
+    };
+    let answer = tell(text, &mut lent, &mut words);
     if answer.number != 0 {
         return print(rt, answer);
     }
@@ -126,14 +126,14 @@ fn print_both(rt: &impl Print, beginning: &[u8], row: &[u8]) -> io::Result<()> {
     let mut rows = [0u16; LEAST_ROWS];
     let mut left = [0u16; MOST_ENTRIES];
     let mut right = [0u16; MOST_ENTRIES];
-    let opened = open(
-        beginning,
-        &mut names,
-        &mut formulas,
-        &mut rows,
-        &mut left,
-        &mut right,
-    );
+    let mut lent = Tables {
+        names: &mut names,
+        formulas: &mut formulas,
+        rows: &mut rows,
+        left: &mut left,
+        right: &mut right,
+    };
+    let opened = open(beginning, &mut lent);
     print(rt, opened.answer)?;
     if opened.answer.number != 0 {
         return Ok(());

@@ -12,6 +12,7 @@ use answers::Answer;
 use counts::Counts;
 use judge::Judged;
 use opening::open;
+use run::lent::Tables;
 
 // A beginning opened: the counts of what it holds, and its tables.
 #[unsafe(no_mangle)]
@@ -27,7 +28,14 @@ pub extern "C" fn elk_open(
         (lengths (five names.old formulas.old rows.old left.old right.old))
         (five names.new formulas.new rows.new left.new right.new) result }
 {
-    open(text, names, formulas, rows, left, right)
+    let mut lent = Tables {
+        names,
+        formulas,
+        rows,
+        left,
+        right,
+    };
+    open(text, &mut lent)
 }
 
 // The row of a text added to an open file.

@@ -30,7 +30,7 @@ use Rattle.answers.specs.Answers.{filled}
 use Rattle.answers.specs.declared.Accepted.{Accepted}
 use Rattle.judge.specs.Contract.{judged_by}
 use Rattle.judge.specs.declared.Judged.{Judged}
-use Rattle.judge.proofs.Whole.{nothing_held, left_by, promised_kept, promised_clear}
+use Rattle.judge.proofs.Whole.{kept_lengths, nothing_held, left_by, promised_kept, promised_clear}
 use Rattle.open.specs.Files.{closed, or_whole, opened, opening_ruling, opening_contents, opening_counts}
 use Rattle.open.proofs.Opened.{opened_lines}
 use Rattle.opening.specs.Contract.{closing, closed_by, Opens}
@@ -138,9 +138,7 @@ module _ {text : Bytes} {ran : Result Ran Stopped} {before after : Memory} (enou
   lent = lengths (five_of before)
 
   same : lengths (five_of after) ≡ lent
-  same =
-      let kept = over.lengths in
-      λ i. record { names = kept.names i; formulas = kept.formulas i; rows = kept.rows i; left = kept.left i; right = kept.right i }
+  same = kept_lengths over.lengths
 
   -- what the definition says of an end
   abbrev Opening : Result Accepted Refused → Type 0

@@ -1,21 +1,28 @@
 -- `opening::open_or_clear` meets its contract: the tables stay where all lines pass, and are clear where one is refused.
-use mathlib.Core.Path.{refl, sym, ◌∙◌}
-use Rattle.run.specs.Lent.{five}
-use Rattle.judge.proofs.Whole.{fresh_tables}
+use mathlib.Core.Path.{refl, sym, ap, ◌∙◌}
+use Rattle.run.specs.Lent.{held, lengths}
+use Rattle.run.specs.declared.lent.Tables.{Tables}
+use Rattle.judge.proofs.Whole.{clear_lengths, kept_lengths, fresh_tables}
 use Rattle.opening.proofs.Whole.{opens_kept, opens_again_clear}
 use Rattle.opening.proofs.open_or_clear.Goals as goal
 use Rattle.opening.proofs.open_or_clear.Goals.{then-is_err, else-is_err}
 
-pub returns : goal.returns
-returns c =
+pub returns-clause-lengths : goal.returns-clause-lengths
+returns-clause-lengths c =
+    let kept = kept_lengths c.run-ran.ensures.over.lengths in
+    elim c.if-is_err.branch [
+      | then-is_err w ↦ clear_lengths _ _ (ap held w.lent-is ∙ w.clear.ensures.cleared) ∙ kept
+      | else-is_err w ↦ ap (λ (t : Tables). lengths (held t)) w.lent-is ∙ kept
+    ]
+
+pub returns-clause-opens : goal.returns-clause-opens
+returns-clause-opens c =
     let fresh = fresh_tables _ c.requires.0 c.requires.1 refl in
     elim c.if-is_err.branch [
       | then-is_err w ↦
-          opens_again_clear c.requires.0 fresh c.run-ran.ensures c.close-end.ensures c.from.ensures
-          (sym c.is_err.ensures.value ∙ w.if-is_err.true)
-          ((λ i. five (w.names-is i) (w.formulas-is i) (w.rows-is i) (w.left-is i) (w.right-is i)) ∙ w.clear_all.ensures)
+          opens_again_clear c.requires.0 fresh c.run-ran.ensures.over c.close-end.ensures c.from.ensures
+          (sym c.is_err.ensures.value ∙ w.if-is_err.true) (ap held w.lent-is ∙ w.clear.ensures.cleared)
       | else-is_err w ↦
-          opens_kept c.requires.0 fresh c.run-ran.ensures c.close-end.ensures c.from.ensures
-          (sym c.is_err.ensures.value ∙ w.if-is_err.false)
-          (λ i. five (w.names-is i) (w.formulas-is i) (w.rows-is i) (w.left-is i) (w.right-is i))
+          opens_kept c.requires.0 fresh c.run-ran.ensures.over c.close-end.ensures c.from.ensures
+          (sym c.is_err.ensures.value ∙ w.if-is_err.false) (ap held w.lent-is)
     ]
