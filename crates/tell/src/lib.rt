@@ -1,7 +1,7 @@
 // A whole text judged, and the rows of an accepted file told in words (paper 02, M-100).
 #![tactic(auto)]
 
-ghost use Rattle.std.specs.Prelude.{length};
+ghost use Rattle.std.specs.Prelude.{◌≡◌, length};
 ghost use Rattle.run.specs.Lent.{held, lengths, Same};
 ghost use Rattle.tell.specs.Contract.{sentences_of, PutsWords, Tells};
 
@@ -39,6 +39,7 @@ fn put_words(text: &[u8], lent: &Tables, count: u16, words: &mut [u8]) -> bool
 // anything before.
 pub fn tell(text: &[u8], lent: &mut Tables, words: &mut [u8]) -> Answer
     ensures same { Same lent.old lent.new }
+    ensures lengths { lengths (held lent.new) ≡ lengths (held lent.old) }
     ensures tells { Tells text.now (lengths (held lent.old)) (length words.old) (held lent.new) words.new result }
 {
     let judged = judge(text, lent);

@@ -18,10 +18,11 @@ returns-in-Err-clause-over c =
 pub loop-end-preserved : goal.loop-end-preserved
 loop-end-preserved c =
     let loop = c.loop-end in
-    let same = loop.invariant.0 in
-    (record { names = same.names; formulas = same.formulas; rows = same.rows; left = same.left; right = same.right },
-    reached_next loop.invariant.1 c.if-text-gt-MOST_BYTES.false c.loop-end-test.true c.step_line-stepped.ensures c.in-Ok.is
-    c.find-end-in-loop-end.ensures)
+    let same = loop.invariant.0 in (
+      record { names = same.names; formulas = same.formulas; rows = same.rows; left = same.left; right = same.right },
+      reached_next loop.invariant.1 c.if-text-gt-MOST_BYTES.false c.loop-end-test.true c.step_line-stepped.ensures c.in-Ok.is
+          c.find-end-in-loop-end.ensures,
+    )
 
 pub returns-clause-over : goal.returns-clause-over
 returns-clause-over c =

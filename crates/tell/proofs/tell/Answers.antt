@@ -1,6 +1,7 @@
 -- `tell::tell` meets its contract: the file's own refusal first, and then whether its words fit.
 use mathlib.Core.Path.{ap, ◌∙◌}
 use Rattle.run.specs.Lent.{clear}
+use Rattle.judge.proofs.Whole.{clear_lengths}
 use Rattle.tell.proofs.Whole.{tells_refused, puts_file, tells_words, tells_no_room}
 use Rattle.tell.proofs.tell.Goals as goal
 
@@ -13,6 +14,9 @@ returns-then-put_words-clause-tells c =
     let fine = c.if-answer-ne0.false in
     let put = puts_file (judges.filed fine) c.narrow_place-count.ensures c.put_words.ensures in
     tells_words judges _ fine put c.if-put_words.true
+
+pub returns-clause-lengths : goal.returns-clause-lengths
+returns-clause-lengths c = clear_lengths _ _ c.clear.ensures.cleared ∙ c.judge-judged.ensures.lengths
 
 pub returns-clause-tells : goal.returns-clause-tells
 returns-clause-tells c =
