@@ -4,6 +4,7 @@ ghost use Rattle.format.specs.Tables.{too_short};
 ghost use Rattle.run.specs.Lent.{lengths, clear, held, Same};
 
 use counts::lengths::too_short;
+use tables::clear;
 
 #[derive(Drop)]
 pub struct Tables<'a> {
@@ -20,11 +21,11 @@ impl<'a> Tables<'a> {
         ensures same { Same self.old self.new }
         ensures cleared { held self.new ≡ clear (lengths (held self.old)) }
     {
-        self.names.fill(0);
-        self.formulas.fill(0);
-        self.rows.fill(0);
-        self.left.fill(0);
-        self.right.fill(0);
+        clear(self.names);
+        clear(self.formulas);
+        clear(self.rows);
+        clear(self.left);
+        clear(self.right);
     }
 
     // Whether one of them is too short for the most that a file holds.
