@@ -52,7 +52,9 @@ fn mark_candidates(side: &[u16], candidates: u64, marks: &mut [u8])
 fn end_of(own: usize, side: &[u16]) -> usize
     ensures { Bounded own side.now result }
 {
-    past_largest(side).max(own.saturating_add(1)).min(MOST_FORMULAS)
+    past_largest(side)
+        .max(own.saturating_add(1))
+        .min(MOST_FORMULAS)
 }
 
 // Whether one of the candidates holds in the same pairs of places as the formula, with a table of so many words for the truths of what
