@@ -1,7 +1,6 @@
 -- A row tried: by the text, the open file and the row's own tests; and what is written of a row that passed is what the open file with
 -- it holds. Assumes nothing.
 use Prim.Native.Nat.{ℕ, ◌≤◌, ◌<◌}
-use native.Mathlib.Omega.{arith}
 use mathlib.Core.Path.{◌≡◌, refl, sym, ap, ap₂, subst, ◌∙◌}
 use Rattle.std.specs.Prelude.{Option as Answer, None, Some, Result, Ok, Err}
 use mathlib.Core.Bool.{Bool, true, false, not, cond}

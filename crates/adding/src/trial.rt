@@ -41,7 +41,8 @@ fn judge_text(
         return Err(Refusal::OutOfOrder);
     }
     let draft = drafted(row, above[0], above[1]);
-    row_number(draft, Sequent { left: l, right: r }, body, counts)?;
+    let judged = row_number(draft, Sequent { left: l, right: r }, body, counts);
+    judged?;
     Ok(draft)
 }
 

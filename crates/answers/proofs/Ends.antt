@@ -20,15 +20,16 @@ use Rattle.parts.proofs.PartLaws.{next_bounds, last_part_lem}
 use Rattle.refusals.specs.declared.Refusal.TheVariants.{BadLine, NoClaim}
 use Rattle.state.specs.State.{Memory, claim_line}
 use Rattle.state.specs.declared.Refused.{Refused}
+use Rattle.state.specs.declared.State.{State}
 use Rattle.run.specs.Running.{place, Running, Passes, Stops, Runs}
 use Rattle.run.specs.declared.Ran.{Ran}
 use Rattle.run.specs.declared.Stopped.{Stopped}
-use Rattle.answers.specs.Answers.{claimed_or_none, answer_by, finished, Accepts, Refuses}
+use Rattle.answers.specs.Answers.{claimed_or_none, answer_by, finished, state_of, Accepts, Refuses}
 use Rattle.answers.specs.declared.Accepted.{Accepted}
 
 -- what the answer after the run says
-abbrev pub Ends : Bytes → Memory → Result Accepted Refused → Type 0
-Ends text t r = MatchResult r (λ a. Accepts text a t) (Refuses text)
+abbrev pub Ends : Bytes → State → Memory → Result Accepted Refused → Type 0
+Ends text s t r = MatchResult r (λ a. Accepts text s a t) (Refuses text)
 
 module _ (text : Bytes) (t : Memory) where
   -- a line was refused
@@ -75,11 +76,11 @@ module _ (text : Bytes) (t : Memory) where
           below_five claimed = omega arith
 
       -- the claim was made, and the file is stored
-      ends_claimed : ran.state.stage ≡ rank claimed → Ends text t (claimed_or_none ran.state.claim ran)
+      ends_claimed : ran.state.stage ≡ rank claimed → Ends text ran.state t (claimed_or_none ran.state.claim ran)
       ends_claimed e =
           let stored = at_end.stored in
           let made = at_end.good.claim_made (omega (arith, e, stored.stage)) in
-          subst (λ (o : Prelude.Option ℕ). Ends text t (claimed_or_none o ran)) (sym (stored.claim ∙ ap claim_line made.1))
+          subst (λ (o : Prelude.Option ℕ). Ends text ran.state t (claimed_or_none o ran)) (sym (stored.claim ∙ ap claim_line made.1))
           (record {
             line = whole ∙ ap (λ (o : Option Claim). or_no_claim o ran.line) made.1;
             file = at_end.file;
@@ -88,17 +89,16 @@ module _ (text : Bytes) (t : Memory) where
                 ∙ run_end (place ran.line ran.at) at_end.file;
             lines = at_end.done;
             good = at_end.good;
-            state = ran.state;
             stored = stored;
             counts = refl;
           })
 
-    by_tests : (more made : Bool) → ltb ran.at (length text) ≡ more → eqb ran.state.stage (rank claimed) ≡ made → Ends text t (answer_by more made ran)
+    by_tests : (more made : Bool) → ltb ran.at (length text) ≡ more → eqb ran.state.stage (rank claimed) ≡ made → Ends text ran.state t (answer_by more made ran)
     by_tests true made m c = ends_stub (ltb-true ran.at (length text) m)
     by_tests false false m c = ends_unclaimed (ltb-false ran.at (length text) m) (eqb-false ran.state.stage (rank claimed) c)
     by_tests false true m c = ends_claimed (ltb-false ran.at (length text) m) (eqb-true ran.state.stage (rank claimed) c)
 
-  pub ends : (r : Result Ran Stopped) → Runs text r t → Ends text t (finished (length text) r)
+  pub ends : (r : Result Ran Stopped) → Runs text r t → Ends text (state_of r) t (finished (length text) r)
   unfolding finished
   ends (Err s) stops = ends_refused s stops
   ends (Ok ran) passes = by_tests ran passes (ltb ran.at (length text)) (eqb ran.state.stage (rank claimed)) refl refl

@@ -51,16 +51,20 @@ filled lent c =
       right = padded lent.right c.right;
     }
 
+-- the state in which a run ends
+abbrev pub state_of : Result Ran Stopped → State
+state_of (Ok ran) = ran.state
+state_of (Err s) = s.state
+
 -- the run over all lines of a text accepts it: the tables and the state hold its file
-pub record Accepts (text : Bytes) (a : Accepted) (t : Memory) : Type 0 where
+pub record Accepts (text : Bytes) (s : State) (a : Accepted) (t : Memory) : Type 0 where
   pub line : answer_from top text no_file ≡ accepted a.line
   pub file : File
   pub is_file : beginning text ≡ next file
   pub lines : List Bytes
   pub good : Good lines file
-  pub state : State
-  pub stored : Stored text file state t
-  pub counts : a.counts ≡ state.counts
+  pub stored : Stored text file s t
+  pub counts : a.counts ≡ s.counts
 
 -- or it refuses it
 abbrev pub Refuses : Bytes → Refused → Type 0

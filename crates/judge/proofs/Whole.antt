@@ -23,6 +23,7 @@ use Rattle.refusals.specs.declared.Refusal.TheVariants.{TooLong}
 use Rattle.refusals.proofs.OneNumber.{number_of-some}
 use Rattle.state.specs.State.{Full, Memory, SameLengths}
 use Rattle.state.specs.declared.Refused.{Refused}
+use Rattle.state.specs.declared.State.{State}
 use Rattle.run.specs.Lent.{five, five_of, lengths, clear, Zeros}
 use Rattle.run.specs.Running.{Fresh, RunOver}
 use Rattle.run.specs.declared.Ran.{Ran}
@@ -87,9 +88,9 @@ module _ (text : Bytes) (lent : Lent) where
       }
 
   -- an acceptance, with the tables that the run left
-  pub judges_accepted : {t : Memory} {a : Accepted} → judged lent text ≡ answer_from top text no_file → lengths (five_of t) ≡ lent
-      → Accepts text a t → JudgesFile text lent (five_of t) (judged_by (Ok a))
-  judges_accepted {t} {a} read same accepts =
+  pub judges_accepted : {t : Memory} {s : State} {a : Accepted} → judged lent text ≡ answer_from top text no_file → lengths (five_of t) ≡ lent
+      → Accepts text s a t → JudgesFile text lent (five_of t) (judged_by (Ok a))
+  judges_accepted {t} {s} {a} read same accepts =
       record {
         judges =
             record {
@@ -160,10 +161,10 @@ module _ {text : Bytes} {ran : Result Ran Stopped} {before after : Memory} (enou
   unfolding lent
   turned e is = judges_cleared text lent e is (ap clear same)
 
-  ended : (end : Result Accepted Refused) → judged lent text ≡ answer_from top text no_file → Ends text after end → Judging end
+  ended : (s : State) (end : Result Accepted Refused) → judged lent text ≡ answer_from top text no_file → Ends text s after end → Judging end
   unfolding lent
-  ended (Ok a) read accepts = judges_accepted text lent read same accepts
-  ended (Err e) read refuses = turned e (read ∙ refuses)
+  ended s (Ok a) read accepts = judges_accepted text lent read same accepts
+  ended s (Err e) read refuses = turned e (read ∙ refuses)
 
   -- a text that is too long is refused by the run, any other by its lines
   judges_end : (end : Result Accepted Refused) → end ≡ finished (length text) ran → Judging end
@@ -177,7 +178,7 @@ module _ {text : Bytes} {ran : Result Ran Stopped} {before after : Memory} (enou
           (turned (record { refusal = TooLong; line = 0 }) (judged_long text lent enough long))
       by_length false e =
           let few = ltb-false most_bytes (length text) e in
-          ended (finished (length text) ran) (judged_read text lent enough few) (ends text after ran (over.runs few fresh))
+          ended _ (finished (length text) ran) (judged_read text lent enough few) (ends text after ran (over.runs few fresh))
 
   -- where the text is refused the tables have been cleared, and else they are as the run left them
   module _ {end : Result Accepted Refused} {t : Contents} {judged : Judged} (made : end ≡ finished (length text) ran) (given : judged ≡ judged_by end) where
