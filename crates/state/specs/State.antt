@@ -44,14 +44,14 @@ modelled_by s atoms line =
 abbrev pub claimed_by : State → ℕ → State
 claimed_by s line = record { counts = s.counts; stage = rank claimed; model = s.model; claim = Some line }
 
--- the line of the M line, or this one if there is none
-abbrev pub report_of : Prelude.Option ModelLine → ℕ → ℕ
-report_of None line = line
-report_of (Some m) line = m.line
+-- the line of the M line, 0 if there is none
+abbrev pub line_held : Prelude.Option ModelLine → ℕ
+line_held None = 0
+line_held (Some m) = m.line
 
 -- the line that a refusal of the model belongs to: the M line, if that was the last one, or this one
 abbrev pub model_report : State → ℕ → ℕ
-model_report s line = cond (eqb s.stage (rank modelled)) (report_of s.model line) line
+model_report s line = cond (eqb s.stage (rank modelled)) (line_held s.model) line
 
 -- a line of the stage `coming` may not follow, by the numbers of the stages
 unfoldable pub out_of_turn : ℕ → ℕ → Bool

@@ -77,13 +77,15 @@ impl State {
         }
     }
 
-    // The line that a refusal of the model belongs to: the M line, if it was the last one, or the claim's own.
+    // The line that a refusal of the model belongs to: the M line, if it was the last one, or the claim's own. After an M line there is
+    // one; for any other state of that stage it is 0.
     pub fn model_report(self, line: u32) -> u32
         ensures { result ≡ model_report self line }
     {
         match self.model {
-            Some(model) if self.stage == MODELLED => model.line,
-            _ => line,
+            _ if self.stage != MODELLED => line,
+            Some(model) => model.line,
+            None => 0,
         }
     }
 
