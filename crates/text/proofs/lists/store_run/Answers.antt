@@ -1,34 +1,30 @@
-use mathlib.Core.Path.{◌≡◌, refl, sym, ◌∙◌}
+use mathlib.Core.Path.{◌≡◌, refl}
 use mathlib.Core.Bool.{Bool, true, false}
-use mathlib.Core.Logic.{◌⊎◌, inl, inr}
+use mathlib.Core.Logic.{inr}
 use native.Mathlib.Omega.{arith}
-use Prim.Native.Nat.{ℕ, ◌+◌, ◌-◌, ◌%◌}
-use lib.ListN.{length-set}
-use Rattle.std.specs.Range.{range_inclusive_len}
+use lib.Dec.{leb}
+use lib.ListN.{length}
+use borrow.Author.Tests.{leb-true, leb-false}
+use Rattle.text.specs.Lists.{laid_at, spanned}
 use Rattle.text.proofs.ListLaws.{stored_past, stored_all, storing_more}
 use Rattle.text.proofs.lists.store_run.Goals as goal
 
--- the last number leaves none
-next_number : (n n' last : ℕ) (exhausted : Bool) → (exhausted ≡ false → n + 1 ≡ n')
-    → (range_inclusive_len (λ a b. b - a) n' last exhausted ≡ 0) ⊎ (n' ≡ n + 1)
-next_number n n' last true h = inl refl
-next_number n n' last false h = inr (sym (h refl))
-
 pub loop-place-preserved : goal.loop-place-preserved
 loop-place-preserved c =
-    let s = c.in-Some.ensures.steps in
-    let inv = c.loop-place.invariant in
-    let it = c.next.new.self.b in
-    let next = next_number _ it.start it.end it.exhausted (λ e. sym (s.1.1.2 e)) in (
-      s.0.0 ∙ inv.0 ∙ sym (length-set c.loop-place.out c.in-Some.place (c.in-Some.n % 65536)),
-      rw (s.0.1.1, s.1.1.0, s.0.1.2) (storing_more _ _ _ _ _ _ _ _ inv.1 _ _ s.1.1.1 next),
+    let inv = c.loop-place.invariant in (
+      omega (arith, inv.0),
+      storing_more _ _ _ _ _ _ _ _ inv.1 _ _
+          (omega (arith, inv.0, c.loop-place-test.true, c.min-end.ensures, c.saturating_add.ensures, c.requires)) (inr (omega (arith, inv.0))),
     )
 
 -- the places end, or the numbers do
 pub returns : goal.returns
-returns c =
-    let inv = c.loop-place.invariant in
-    elim c.in-None.ensures.steps [
-      | inl h ↦ stored_past _ _ _ _ _ _ _ _ inv.1 (omega (arith, h.1, inv.0))
-      | inr h ↦ stored_all _ _ _ _ _ _ _ _ inv.1 h.1.1.0
-    ]
+returns c = by_test (leb (length c.loop-place.out) c.loop-place.place) refl
+  where
+    by_test : (t : Bool) → leb (length c.loop-place.out) c.loop-place.place ≡ t
+        → c.loop-place.out ≡ laid_at c.args.out.now c.args.at (spanned c.args.first c.args.last)
+    by_test true e = stored_past _ _ _ _ _ _ _ _ c.loop-place.invariant.1 (leb-true _ _ e)
+    by_test false e =
+        let inv = c.loop-place.invariant in
+        stored_all _ _ _ _ _ _ _ _ inv.1
+        (omega (arith, inv.0, inv.1.kept, leb-false _ _ e, c.loop-place-test.false, c.min-end.ensures, c.saturating_add.ensures, c.requires))
