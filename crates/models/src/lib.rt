@@ -49,13 +49,18 @@ fn undisturbed(
     ensures { result ≡ not (some_upsets formulas.now sheet.now model) }
 {
     let last = (1u64 << count(model)) - 1;
-    for n in 0..last {
+    let mut upset = false;
+    'parts: for n in 0..last {
         fill_here(formulas, end, part_of(model, n), there, here);
-        if holds_all(here, sheet) {
-            return false;
+        for i in 0..sheet.len() {
+            if !holds(here, usize::from(sheet[i])) {
+                continue 'parts;
+            }
         }
+        upset = true;
+        break 'parts;
     }
-    true
+    !upset
 }
 
 // Whether the model is in equilibrium, with room for notes on the formulas.

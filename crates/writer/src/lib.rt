@@ -31,7 +31,8 @@ impl<'a> Writer<'a> {
     pub fn end(&self) -> Option<usize>
         ensures { result ≡ self.now.end }
     {
-        self.end
+        let reached = self.end;
+        reached
     }
 
     pub fn put(&mut self, words: &[u8])

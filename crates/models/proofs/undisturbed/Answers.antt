@@ -9,7 +9,9 @@ use Rattle.format.specs.Model.{most_in_model}
 use Rattle.atomset.specs.AtomSet.{members}
 use Rattle.atomset.proofs.Digits.{shl_one}
 use Rattle.models.specs.Models.{upsets, some_below}
+use Rattle.models.proofs.Passing.{fails, all_passed}
 use Rattle.models.proofs.Judging.{length_here, all_here, none_next, some_found}
+use Rattle.models.proofs.undisturbed.Goals.{else-parts-test, then-parts-test+else-loop-i-test}
 use Rattle.models.proofs.undisturbed.Goals as goal
 
 -- `1 << k`, where k is the count of the model's atoms
@@ -24,35 +26,37 @@ overflow_sub-last c =
     let atoms = members c.args.model in
     omega (arith, word_of_parts atoms c.requires.few c.count.ensures, pow_pos (length atoms))
 
-pub loop-n-init : goal.loop-n-init
+pub parts-init : goal.parts-init
 unfolding some_below
-loop-n-init c = (c.requires.room, refl)
+parts-init c = (refl, c.requires.room, refl)
 
-pub loop-n-preserved : goal.loop-n-preserved
-loop-n-preserved c =
+pub parts-preserved : goal.parts-preserved
+parts-preserved c =
     let pre = c.requires in
     let args = c.args in
-    let loop = c.loop-n in
-    let judged = all_here args.sheet.now args.model pre.below args.there.now loop.n pre.notes loop.invariant.0 c.part_of.ensures c.fill_here.ensures in (
-      length_here c.fill_here.ensures ∙ loop.invariant.0,
-      none_next (upsets args.formulas.now args.sheet.now args.model) loop.n loop.invariant.1
-          (sym judged ∙ sym c.holds_all.ensures ∙ c.if-holds_all.false),
+    let parts = c.parts in
+    let fails-here = fails _ _ c.loop-i.i c.loop-i.invariant.1 c.loop-i-test.true c.from.ensures c.holds.ensures c.if-not-holds.true in
+    let judged = all_here args.sheet.now args.model pre.below args.there.now parts.n pre.notes parts.invariant.1 c.part_of.ensures c.fill_here.ensures in (
+      c.loop-i.invariant.0,
+      length_here c.fill_here.ensures ∙ parts.invariant.1,
+      none_next (upsets args.formulas.now args.sheet.now args.model) parts.n parts.invariant.2 (sym judged ∙ fails-here),
     )
-
-pub returns-then-holds_all : goal.returns-then-holds_all
-returns-then-holds_all c =
-    let pre = c.requires in
-    let args = c.args in
-    let loop = c.loop-n in
-    let test = upsets args.formulas.now args.sheet.now args.model in
-    let all-parts = word_of_parts (members args.model) pre.few c.count.ensures in
-    let judged = all_here args.sheet.now args.model pre.below args.there.now loop.n pre.notes loop.invariant.0 c.part_of.ensures c.fill_here.ensures in
-    sym (ap not (some_found test (2 ^ length (members args.model) - 1) loop.n (omega (arith, all-parts))
-    (sym judged ∙ sym c.holds_all.ensures ∙ c.if-holds_all.true)))
 
 pub returns : goal.returns
 returns c =
     let args = c.args in
-    let all-parts = word_of_parts (members args.model) c.requires.few c.count.ensures in
-    let last : c.loop-n.n ≡ 2 ^ length (members args.model) - 1 = omega (arith, all-parts) in
-    sym (ap not (ap (some_below (upsets args.formulas.now args.sheet.now args.model)) (sym last) ∙ c.loop-n.invariant.1))
+    let pre = c.requires in
+    let test = upsets args.formulas.now args.sheet.now args.model in
+    let all-parts = word_of_parts (members args.model) pre.few c.count.ensures in
+    let answer : c.parts-test.upset ≡ some_below test (2 ^ length (members args.model) - 1) =
+    elim c.parts-test.branch [
+      | else-parts-test w ↦
+          let last : c.parts.n ≡ 2 ^ length (members args.model) - 1 = omega (arith, all-parts, w.parts-test.false) in
+          w.upset-is ∙ c.parts.invariant.0 ∙ sym (ap (some_below test) (sym last) ∙ c.parts.invariant.2)
+      | then-parts-test+else-loop-i-test w ↦
+          let judged = all_here args.sheet.now args.model pre.below args.there.now c.parts.n pre.notes c.parts.invariant.1
+          w.part_of.ensures w.fill_here.ensures in
+          let passed = all_passed _ _ w.loop-i.i w.loop-i.invariant.1 (omega (arith, w.loop-i-test.false)) in
+          w.upset-is ∙ sym (some_found test _ c.parts.n (omega (arith, all-parts, w.parts-test.true)) (sym judged ∙ passed))
+    ] in
+    ap not answer
