@@ -1,9 +1,17 @@
 // A name found among the first records of the names table. A record that does not lie inside its table is none of them.
 ghost use Rattle.std.specs.Prelude.{◌≡◌};
+ghost use Rattle.format.specs.Text.{same_list};
 ghost use Rattle.format.specs.Tables.{name_width};
 ghost use Rattle.tables.specs.Names.{first_records, spelled, NameFound};
 
 use counts::limits::NAME_WIDTH;
+
+// Whether two byte strings are equal: pair by pair, with no call such as `bcmp`, which the archives for C would need from outside.
+pub fn same_bytes(a: &[u8], b: &[u8]) -> bool
+    ensures { result ≡ same_list a.now b.now }
+{
+    a.len() == b.len() && a.iter().zip(b).all(|(x, y)| x == y)
+}
 
 // Whether the text has exactly this name at a place.
 fn spells(text: &[u8], start: u16, len: u16, name: &[u8]) -> bool
@@ -11,7 +19,7 @@ fn spells(text: &[u8], start: u16, len: u16, name: &[u8]) -> bool
 {
     let from = usize::from(start);
     text.get(from..from + usize::from(len))
-        .is_some_and(|part| part == name)
+        .is_some_and(|part| same_bytes(part, name))
 }
 
 // Which of the first `count` names is this one.

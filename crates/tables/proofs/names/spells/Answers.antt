@@ -11,7 +11,6 @@ use lib.ListN.{take, drop}
 use Rattle.std.specs.Prelude.{Option, Some, None, MatchOption}
 use Rattle.std.specs.Slice.{IsGetRangeResult}
 use Rattle.format.specs.Text.{same_list}
-use Rattle.format.proofs.Equal.{same_pointwise}
 use Rattle.tables.specs.Names.{spelled}
 use Rattle.tables.proofs.names.spells.Goals as goal
 
@@ -31,4 +30,4 @@ module _ (text name : List ℕ) (start len : ℕ) where
 pub returns : goal.returns
 returns c =
     answered c.args.text.now c.args.name.now c.args.start c.args.len _ _ _ _ _ c.get.ensures.lookup c.is_some_and.ensures
-    (λ x k. rw (← same_pointwise x.now c.args.name.now) (search rules)) c.from-from.ensures (omega arith)
+    (λ x k. search rules) c.from-from.ensures (omega arith)
