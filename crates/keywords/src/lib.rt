@@ -7,6 +7,8 @@ ghost use Rattle.format.specs.Line.{rule_of};
 ghost use Rattle.keywords.specs.Words.{KindRead, word_code, formula_word, rule_code, IsKey};
 ghost use Rattle.keywords.specs.RuleWords.{CodesPlaced, Candidate, WordsStand, word_at};
 
+use tables::names::same_bytes;
+
 #[derive(Clone, Copy, PartialEq, Eq)]
 pub enum Kind {
     Atom,
@@ -137,7 +139,7 @@ fn is_word(words: &[u8], starts: &[u8], code: u8, field: &[u8]) -> bool
     let at = usize::from(code);
     let from = start_of(starts, at, words.len());
     let to = start_of(starts, at + 1, words.len());
-    field == &words[from..to]
+    same_bytes(field, &words[from..to])
 }
 
 // The code of the rule whose word this is; None for any other. The words are held once, end to end in the order of their codes, with
