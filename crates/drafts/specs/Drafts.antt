@@ -1,17 +1,44 @@
--- A row as it was read: what is answered to its fields, its draft, and the row of a file that draft and tables are.
+-- A row as it was read: what is answered to its fields, the row that they are, its draft, and the row of a file that draft and tables
+-- are.
 use Rattle.std.specs.Prelude.{ℕ, ◌≤◌, ◌%◌, ◌≡◌, true, false, List, [], ◌∷◌, length, get_or, take, Option, None, Some}
 use Rattle.std.proofs.Math.Option as Math
 use Rattle.equilibrium.specs.Meaning.{◌∈◌}
 use Rattle.elk.specs.Rules.{Rule, code_of}
 use Rattle.format.specs.Text.{Bytes, number_of, principal_of, premise_list_of, side_of}
 use Rattle.format.specs.File.{Row}
-use Rattle.format.specs.Line.{rule_of, make_row}
+use Rattle.format.specs.Line.{rule_of}
 use Rattle.format.specs.Tables.{absent, most_on_side}
-use Rattle.text.specs.Numbers.{number_as}
-use Rattle.text.specs.Lists.{listed_of, listed_as, list_by, laid_over, ListedInto}
+use Rattle.text.specs.Numbers.{number_as, principal_as}
+use Rattle.text.specs.Lists.{listed_of, listed_as, laid_over, ListedInto}
+use Rattle.keywords.specs.Words.{rule_code}
 use Rattle.text.specs.declared.lists.Listed.{Listed}
 use Rattle.drafts.specs.declared.Draft.{Draft}
+use Rattle.drafts.specs.declared.RowFields.{RowFields}
 use Rattle.drafts.specs.declared.RowRead.{RowRead}
+
+-- what the readers answer to the six fields of a row
+abbrev pub read_as :
+    Math.Option ℕ → Math.Option Rule → Math.Option (Math.Option ℕ) → Math.Option (List ℕ) → Math.Option (List ℕ) → Math.Option (List ℕ)
+    → RowFields
+read_as number rule principal premises left right =
+    record {
+      number = number_as number;
+      rule = rule_code rule;
+      principal = principal_as principal;
+      premises = listed_as premises;
+      left = listed_as left;
+      right = listed_as right;
+    }
+
+-- what is read of the fields of a line, by their places, and what is stored of its lists in the tables that were lent for them
+pub record RowInto (field : ℕ → Bytes) (premises left right premises' left' right' : List ℕ) (r : RowFields) : Type 0 where
+  pub answer :
+      r
+      ≡ read_as (number_of (field 1)) (rule_of (field 2)) (principal_of (field 3)) (premise_list_of (field 4))
+      (side_of (field 5)) (side_of (field 6))
+  pub premises_listed : ListedInto false (field 4) premises premises' r.premises
+  pub left_listed : ListedInto true (field 5) left left' r.left
+  pub right_listed : ListedInto true (field 6) right right' r.right
 
 -- what is read of a row that is well written
 abbrev pub row_read : ℕ → Row → RowRead
@@ -25,29 +52,19 @@ row_read n q =
       right = listed_of q.right;
     }
 
--- what is answered to the six fields of a row: the row, if each is well written
-abbrev pub read_as :
-    Math.Option ℕ → Math.Option Rule → Math.Option (Math.Option ℕ) → Math.Option (List ℕ) → Math.Option (List ℕ) → Math.Option (List ℕ)
-    → Option RowRead
-read_as Math.none rule principal premises left right = None
-read_as (Math.some n) Math.none principal premises left right = None
-read_as (Math.some n) (Math.some rule) Math.none premises left right = None
-read_as (Math.some n) (Math.some rule) (Math.some principal) Math.none left right = None
-read_as (Math.some n) (Math.some rule) (Math.some principal) (Math.some premises) Math.none right = None
-read_as (Math.some n) (Math.some rule) (Math.some principal) (Math.some premises) (Math.some left) Math.none = None
-read_as (Math.some n) (Math.some rule) (Math.some principal) (Math.some premises) (Math.some left) (Math.some right) =
-    Some (row_read n (make_row rule principal premises left right))
+-- the row of six answers, if none of them is that a field is badly written
+abbrev pub whole_by : Option ℕ → Option ℕ → Option (Option ℕ) → Option Listed → Option Listed → Option Listed → Option RowRead
+whole_by None rule principal premises left right = None
+whole_by (Some number) None principal premises left right = None
+whole_by (Some number) (Some rule) None premises left right = None
+whole_by (Some number) (Some rule) (Some principal) None left right = None
+whole_by (Some number) (Some rule) (Some principal) (Some premises) None right = None
+whole_by (Some number) (Some rule) (Some principal) (Some premises) (Some left) None = None
+whole_by (Some number) (Some rule) (Some principal) (Some premises) (Some left) (Some right) =
+    Some (record { number = number; rule = rule; principal = principal; premises = premises; left = left; right = right })
 
--- what is read of the fields of a line, by their places, and what is stored of its lists in the tables that were lent for them
-pub record RowInto (field : ℕ → Bytes) (premises left right premises' left' right' : List ℕ) (r : Option RowRead) : Type 0 where
-  pub answer :
-      r
-      ≡ read_as (number_of (field 1)) (rule_of (field 2)) (principal_of (field 3)) (premise_list_of (field 4))
-      (side_of (field 5)) (side_of (field 6))
-  -- whether each field is well written or not
-  pub premises_listed : ListedInto false (field 4) premises premises' (listed_as (list_by false (field 4)))
-  pub left_listed : ListedInto true (field 5) left left' (listed_as (list_by true (field 5)))
-  pub right_listed : ListedInto true (field 6) right right' (listed_as (list_by true (field 6)))
+abbrev pub whole_of : RowFields → Option RowRead
+whole_of f = whole_by f.number f.rule f.principal f.premises f.left f.right
 
 abbrev pub draft_of : RowRead → ℕ → ℕ → Draft
 draft_of row first second =

@@ -1,12 +1,12 @@
-// A row as it was read out of its line, on its way to its number: its fields, if they are well written, the draft that it is judged by,
-// and what is stored of it.
+// A row as it was read out of its line, on its way to its number: its fields, the row that they are if all are well written, the draft
+// that it is judged by, and what is stored of it.
 #![tactic(auto)]
 
 pub mod store;
 
 ghost use Rattle.std.specs.Prelude.{◌≡◌};
 ghost use Rattle.parts.specs.Parts.{field_by};
-ghost use Rattle.drafts.specs.Drafts.{RowInto, draft_of, principal_number};
+ghost use Rattle.drafts.specs.Drafts.{RowInto, whole_of, draft_of, principal_number};
 
 use keywords::rule_word;
 use parts::{Fields, field};
@@ -25,15 +25,42 @@ pub struct RowRead {
     pub right: Listed,
 }
 
-// The fields of a row, by its line as it was taken into fields; None where one of them is badly written. Every field is read: the first
-// premises and the sides' entries are stored as far as there is room for them.
+// What each field of a row is read as, whatever the others are; None where it is badly written.
+#[derive(Clone, Copy)]
+pub struct RowFields {
+    pub number: Option<u32>,
+    pub rule: Option<u16>,
+    pub principal: Option<Option<u32>>,
+    pub premises: Option<Listed>,
+    pub left: Option<Listed>,
+    pub right: Option<Listed>,
+}
+
+impl RowFields {
+    // The row that they are; None where one of them is badly written.
+    pub fn whole(self) -> Option<RowRead>
+        ensures { result ≡ whole_of self }
+    {
+        Some(RowRead {
+            number: self.number?,
+            rule: self.rule?,
+            principal: self.principal?,
+            premises: self.premises?,
+            left: self.left?,
+            right: self.right?,
+        })
+    }
+}
+
+// The fields of a row, by its line as it was taken into fields. The first premises and the sides' entries are stored as far as
+// there is room for them.
 pub fn read_row(
     line: &[u8],
     fields: Fields,
     premises: &mut [u16],
     left: &mut [u16],
     right: &mut [u16],
-) -> Option<RowRead>
+) -> RowFields
     ensures { RowInto (field_by line.now fields) premises.old left.old right.old
         premises.new left.new right.new result }
 {
@@ -43,14 +70,14 @@ pub fn read_row(
     let above = read_list(field(line, fields, 4), premises);
     let antecedent = read_side(field(line, fields, 5), left);
     let succedent = read_side(field(line, fields, 6), right);
-    Some(RowRead {
-        number: number?,
-        rule: rule?,
-        principal: principal?,
-        premises: above?,
-        left: antecedent?,
-        right: succedent?,
-    })
+    RowFields {
+        number,
+        rule,
+        principal,
+        premises: above,
+        left: antecedent,
+        right: succedent,
+    }
 }
 
 // The code of a row's rule, its principal formula, what is known of its lists, and its first two premises, 65,535 where there is
