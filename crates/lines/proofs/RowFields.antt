@@ -21,7 +21,8 @@ use Rattle.std.proofs.lemmas.Option.{none-some, same_Some}
 use Rattle.drafts.specs.declared.Draft.{Draft}
 use Rattle.state.specs.Lined.{OfKind}
 use Rattle.lines.proofs.LineLaws.{row_written, line_row, list_laid}
-use Rattle.drafts.specs.Drafts.{Narrow, Drafted, read_as, row_read, RowInto, draft_of, RowLaid}
+use Rattle.drafts.specs.Drafts.{Narrow, Drafted, read_as, whole_of, row_read, RowInto, draft_of, RowLaid}
+use Rattle.drafts.specs.declared.RowFields.{RowFields}
 use Rattle.drafts.specs.declared.RowRead.{RowRead}
 
 -- ---- the fields
@@ -37,7 +38,7 @@ pub record Written (number : Option ℕ) (rule : Option Rule) (principal : Optio
   pub right_listed : right ≡ some its.right
 
 well_written : (number : Option ℕ) (rule : Option Rule) (principal : Option (Option ℕ)) (premises left right : Option (List ℕ)) (row : RowRead)
-    → read_as number rule principal premises left right ≡ Some row → Written number rule principal premises left right row
+    → whole_of (read_as number rule principal premises left right) ≡ Some row → Written number rule principal premises left right row
 well_written none rule principal premises left right row h = absurd (none-some row h)
 well_written (some n) none principal premises left right row h = absurd (none-some row h)
 well_written (some n) (some s) none premises left right row h = absurd (none-some row h)
@@ -56,7 +57,7 @@ well_written (some n) (some s) (some o) (some ps) (some ls) (some rs) row h =
     }
 
 badly_written : (number : Option ℕ) (rule : Option Rule) (principal : Option (Option ℕ)) (premises left right : Option (List ℕ))
-    → read_as number rule principal premises left right ≡ None → row_written number rule principal premises left right ≡ none
+    → whole_of (read_as number rule principal premises left right) ≡ None → row_written number rule principal premises left right ≡ none
 badly_written none rule principal premises left right h = refl
 badly_written (some n) none principal premises left right h = refl
 badly_written (some n) (some s) none premises left right h = refl
@@ -78,7 +79,8 @@ laid_at_lem (x ∷ xs) (o ∷ was) (suc i) narrow room = laid_at_lem xs was i (�
 -- ---- a line whose kind is N
 
 module _ (line : Bytes) (kind : OfKind "N" line) (fields : Fields) (fielded : Fielded line fields) (counted : fields.count ≡ 7)
-    {above l r above' l' r' : List ℕ} {answer : Answer RowRead} (i : RowInto (field_by line fields) above l r above' l' r' answer) where
+    {above l r above' l' r' : List ℕ} {read : RowFields} (i : RowInto (field_by line fields) above l r above' l' r' read)
+    {answer : Answer RowRead} (is_whole : answer ≡ whole_of read) where
   abbrev own : Option ℕ
   own = number_of (field_by line fields 1)
 
@@ -104,13 +106,16 @@ module _ (line : Bytes) (kind : OfKind "N" line) (fields : Fields) (fielded : Fi
       let at-6 = field_found line fields 6 fielded (lit< tt) in
       line_row line kind (sym fielded.counted ∙ counted) ∙ cc
 
+  answered : whole_of (read_as own rule principal premises (side_at_lem 5) (side_at_lem 6)) ≡ answer
+  answered = ap whole_of (sym i.answer) ∙ sym is_whole
+
   pub row_unread : answer ≡ None → line_of line ≡ none
-  row_unread h = is_row ∙ badly_written own rule principal premises (side_at_lem 5) (side_at_lem 6) (sym i.answer ∙ h)
+  row_unread h = is_row ∙ badly_written own rule principal premises (side_at_lem 5) (side_at_lem 6) (answered ∙ h)
 
   pub row_found : {row : RowRead} → answer ≡ Some row → above ≡ absent ∷ absent ∷ [] → most_on_side ≤ length l → most_on_side ≤ length r
       → (n : ℕ) × (q : Row) × (line_of line ≡ some (row_line n q)) × RowLaid n q row above' l' r'
   row_found {row} h lent left_room right_room =
-      let w = well_written own rule principal premises (side_at_lem 5) (side_at_lem 6) row (sym i.answer ∙ h) in
+      let w = well_written own rule principal premises (side_at_lem 5) (side_at_lem 6) row (answered ∙ h) in
       let read : row ≡ row_read w.own w.its = w.read in
       let laid : RowLaid w.own w.its row above' l' r' =
       record {

@@ -47,7 +47,8 @@ fn settle_row(
         left,
         right,
     };
-    row_number(draft, read, body, counts)?;
+    let judged = row_number(draft, read, body, counts);
+    judged?;
     store_row(draft, antecedent, succedent, rows, left, right, counts);
     Ok(state.passed(counts.with_row(draft.left.count, draft.right.count), ROWS))
 }
@@ -72,7 +73,7 @@ pub(crate) fn row_line(
     let mut above = [ABSENT; 2];
     let mut l = [0u16; MOST_ON_SIDE];
     let mut r = [0u16; MOST_ON_SIDE];
-    let Some(row) = read_row(line.bytes, line.fields, &mut above, &mut l, &mut r) else {
+    let Some(row) = read_row(line.bytes, line.fields, &mut above, &mut l, &mut r).whole() else {
         return Err(Refusal::BadLine);
     };
     settle_row(
