@@ -36,7 +36,8 @@ use Rattle.parts.specs.declared.Fields.{Fields}
 use Rattle.parts.proofs.PartLaws.{next_bounds, last_part_lem, next_part}
 use Rattle.std.specs.Prelude.{Option as Answer, None}
 use Rattle.std.proofs.lemmas.Option.{none-some}
-use Rattle.drafts.specs.Drafts.{RowInto}
+use Rattle.drafts.specs.Drafts.{RowInto, whole_of}
+use Rattle.drafts.specs.declared.RowFields.{RowFields}
 use Rattle.drafts.specs.declared.RowRead.{RowRead}
 use Rattle.lines.proofs.LineLaws.{line_no_row}
 use Rattle.lines.proofs.RowFields.{row_unread, row_found}
@@ -129,13 +130,13 @@ module _ (line : Bytes) (fields : Fields) (fielded : Fielded line fields) (first
     pub miscounted : (fields.count ≡ 7 → ⊥) → (b : Body) → with_line (line_of line) b ≡ refused 3 1
     miscounted ne b = ap (λ (o : Option Line). with_line o b) (line_no_row line of_kind_lem (λ h. ne (fielded.counted ∙ h)))
 
-    pub row_said : fields.count ≡ 7 → {premises left right premises' left' right' : List ℕ} {read : Answer RowRead}
-        → RowInto (field_by line fields) premises left right premises' left' right' read
+    pub row_said : fields.count ≡ 7 → {premises left right premises' left' right' : List ℕ} {six : RowFields}
+        → RowInto (field_by line fields) premises left right premises' left' right' six → {read : Answer RowRead} → read ≡ whole_of six
         → SaidRead (line_of line) premises left right premises' left' right' read
-    row_said counted into =
+    row_said counted into is_whole =
         record {
-          other = λ bad b. ap (λ (o : Option Line). with_line o b) (row_unread line of_kind_lem fields fielded counted into bad);
-          found = λ row is. row_found line of_kind_lem fields fielded counted into is;
+          other = λ bad b. ap (λ (o : Option Line). with_line o b) (row_unread line of_kind_lem fields fielded counted into is_whole bad);
+          found = λ row is. row_found line of_kind_lem fields fielded counted into is_whole is;
         }
 
 -- ---- the one line of a text

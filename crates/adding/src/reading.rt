@@ -31,7 +31,7 @@ fn read_line(
     if fields.count != MOST_FIELDS {
         return None;
     }
-    read_row(line, fields, premises, left, right)
+    read_row(line, fields, premises, left, right).whole()
 }
 
 // The same of a text, which has to be one complete line.

@@ -15,4 +15,4 @@ returns-then-fields-ne-MOST_FIELDS c =
 pub returns : goal.returns
 returns c =
     row_said _ _ c.read_fields-fields.ensures _ c.field.ensures (sym c.names_row.ensures ∙ c.if-not-names_row.false)
-    c.if-fields-ne-MOST_FIELDS.false c.read_row.ensures
+    c.if-fields-ne-MOST_FIELDS.false c.read_row.ensures c.whole.ensures
