@@ -36,6 +36,17 @@ fn fill<R: Read>(input: &mut R, buffer: &mut [u8]) -> io::Result<usize>
     Ok(at)
 }
 
+// Reads the rest of the input. A loop has to end, and nothing says that an input does: so it counts its turns, up to a
+// number that no run reaches. `io::copy` would try an interrupted read again, which counts as a failed one here.
+fn drain<R: Read>(input: &mut R, buffer: &mut [u8]) -> io::Result<()> {
+    for _turn in 0..u64::MAX {
+        if input.read(buffer)? == 0 {
+            return Ok(());
+        }
+    }
+    Err(io::Error::from(io::ErrorKind::Other))
+}
+
 // Reads the whole input and tells how many bytes of it the buffer holds. One that fills the buffer is read on to its
 // end; the buffer keeps what came first.
 fn read_all<R: Read>(input: &mut R, buffer: &mut [u8]) -> io::Result<usize>
@@ -45,7 +56,8 @@ fn read_all<R: Read>(input: &mut R, buffer: &mut [u8]) -> io::Result<usize>
     if held < buffer.len() {
         return Ok(held);
     }
-    io::copy(input, &mut io::sink())?;
+    let mut rest = [0u8; 4096];
+    drain(input, &mut rest)?;
     Ok(held)
 }
 
