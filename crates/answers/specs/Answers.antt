@@ -1,6 +1,6 @@
 -- The answer after the run over a text's complete lines, and what an answer says of the text.
 use Rattle.std.specs.Prelude
-use Rattle.std.specs.Prelude.{ℕ, ◌≡◌, Bool, true, false, List, eqb, ltb, Some, None, Result, Ok, Err}
+use Rattle.std.specs.Prelude.{ℕ, ◌≡◌, Bool, true, false, List, eqb, ltb, unwrap_or, Result, Ok, Err, IsErrAnd, MatchResult}
 use Rattle.format.specs.Text.{Bytes}
 use Rattle.format.specs.File.{File, no_file, claimed}
 use Rattle.format.specs.Tables.{Contents, Lent, padded}
@@ -24,21 +24,23 @@ answer number line = record { number = number; line = line }
 abbrev pub refusing : Refused → Answer
 refusing r = answer (number_of r.refusal) r.line
 
--- the claim's line and the counts, or a refusal on the line after the last one where there is no claim
-abbrev pub claimed_or_none : Prelude.Option ℕ → Ran → Result Accepted Refused
-claimed_or_none None ran = Err (record { refusal = NoClaim; line = ran.line })
-claimed_or_none (Some line) ran = Ok (record { line = line; counts = ran.state.counts })
-
--- by whether bytes are left after the complete lines, and a claim was made
+-- by whether bytes are left after the complete lines, and a claim was made: the claim's line and the counts, or a refusal on the line after
+-- the last one
 abbrev pub answer_by : Bool → Bool → Ran → Result Accepted Refused
 answer_by true made ran = Err (record { refusal = BadLine; line = ran.line })
-answer_by false false ran = claimed_or_none None ran
-answer_by false true ran = claimed_or_none ran.state.claim ran
+answer_by false false ran = Err (record { refusal = NoClaim; line = ran.line })
+answer_by false true ran = Ok (record { line = unwrap_or ran.state.claim 0; counts = ran.state.counts })
 
 -- after the complete lines of a text of this length
 unfoldable pub finished : ℕ → Result Ran Stopped → Result Accepted Refused
 finished len (Err s) = Err s.refused
 finished len (Ok ran) = answer_by (ltb ran.at len) (eqb ran.state.stage (rank claimed)) ran
+
+-- the same of a run that is refused with anything: what it is refused with, or a refusal of the end, as what the answer is refused with
+abbrev pub Finishes : {S E : Type 0} → (S → E → Type 0) → (Refused → E → Type 0) → ℕ → Result Ran S → Result Accepted E → Type 0
+Finishes stopped refused len (Err s) r = IsErrAnd r (stopped s)
+Finishes stopped refused len (Ok ran) r =
+    MatchResult (answer_by (ltb ran.at len) (eqb ran.state.stage (rank claimed)) ran) (λ a. r ≡ Ok a) (λ e. IsErrAnd r (refused e))
 
 -- tables of these lengths that hold these contents, and zeros after them
 abbrev pub filled : Lent → Contents → Contents

@@ -2,11 +2,11 @@
 #![tactic(auto)]
 
 ghost use Rattle.std.specs.Prelude.{◌≡◌, length};
-ghost use Rattle.answers.specs.Answers.{answer, refusing, finished};
+ghost use Rattle.answers.specs.Answers.{answer, refusing, Finishes};
 
 use counts::Counts;
 use refusals::Refusal;
-use run::{Ran, Stopped};
+use run::Ran;
 use state::{CLAIMED, Refused};
 
 // Refusal number and line; number 0 is acceptance, with a line that the call names: of a whole text the claim's.
@@ -44,30 +44,30 @@ pub struct Accepted {
 }
 
 // What the run was refused for; else bytes with no line feed after the complete lines are a bad line, and then a claim may be
-// missing.
-pub fn finish(text: &[u8], ran: Result<Ran, Stopped>) -> Result<Accepted, Refused>
-    ensures { result ≡ finished (length text.now) ran }
+// missing. A run may be refused with anything, a number that no refusal has among them.
+pub fn finish<S, E: From<S> + From<Refused>>(
+    text: &[u8],
+    ran: Result<Ran, S>,
+) -> Result<Accepted, E>
+    ensures { Finishes ⟦<E as From<S>>⟧.from_gives ⟦<E as From<Refused>>⟧.from_gives
+        (length text.now) ran result }
 {
     let ran = ran?;
     let line = ran.line;
     if ran.at < text.len() {
-        return Err(Refused {
+        return Err(E::from(Refused {
             refusal: Refusal::BadLine,
             line,
-        });
+        }));
     }
-    let no_claim = Refused {
-        refusal: Refusal::NoClaim,
-        line,
-    };
     if ran.state.stage != CLAIMED {
-        return Err(no_claim);
+        return Err(E::from(Refused {
+            refusal: Refusal::NoClaim,
+            line,
+        }));
     }
-    match ran.state.claim {
-        Some(claim) => Ok(Accepted {
-            line: claim,
-            counts: ran.state.counts,
-        }),
-        None => Err(no_claim),
-    }
+    Ok(Accepted {
+        line: ran.state.claim.unwrap_or(0),
+        counts: ran.state.counts,
+    })
 }

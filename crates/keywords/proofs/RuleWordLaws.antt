@@ -16,8 +16,9 @@ use Rattle.format.specs.Line.{rule_among, rule_of}
 use Rattle.format.specs.Tables.{part, join_all}
 use Rattle.format.proofs.Booleans.{and_true as both, same_list_lem}
 use Rattle.format.proofs.WrittenLines.{rule_word}
-use Rattle.keywords.specs.Words.{rule_code}
-use Rattle.std.specs.Prelude.{None, Some}
+use Rattle.parts.specs.Refusals.{bad_if_none, refusal_of}
+use Rattle.keywords.specs.Words.{rule_code, RuleRead}
+use Rattle.std.specs.Prelude.{Option as Answer, None, Some}
 use Rattle.keywords.specs.RuleWords.{start_in, word_in, WordsStand, word_at, place_of, CodesPlaced, Candidate}
 use Rattle.keywords.proofs.WordLaws.{all_below}
 
@@ -166,3 +167,12 @@ module _ (field : Bytes) (code : ℕ) (candidate : Candidate field code) where
           let this = told rules field r o in
           let word = word_at_lem code r (sym (candidate.only r this)) in
           absurd (true≢false (sym this ∙ ap (same_list field) (sym word) ∙ e))
+
+-- ---- what is told of a field
+
+code_refusal : (o : Option Rule) → refusal_of (rule_code o) ≡ bad_if_none o
+code_refusal none = refl
+code_refusal (some r) = refl
+
+pub rule_answered : (o : Option Rule) {r : Answer ℕ} → r ≡ rule_code o → RuleRead o r
+rule_answered o e = record { answer = e; refusal = ap refusal_of e ∙ code_refusal o }

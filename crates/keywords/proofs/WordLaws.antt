@@ -14,7 +14,7 @@ use Rattle.format.specs.Text.{Bytes, same_list, all, bytes, is}
 use Rattle.format.proofs.Booleans.{and_true as both, same_list_lem}
 use Rattle.parts.specs.Refusals.{bad_unless, refusal_of}
 use Rattle.parts.proofs.OneByte.{one_byte, not_one_byte}
-use Rattle.keywords.specs.Words.{kind_named, formula_word, key_of, IsKey, KindRead}
+use Rattle.keywords.specs.Words.{kind_named, formula_word, key_of, IsKey, KindRead, WordRead}
 use Rattle.keywords.specs.declared.Kind.TheVariants.{Atom, Formula, Row, Model, Claim}
 use Rattle.keywords.specs.declared.Kind.{Kind}
 use Rattle.keywords.specs.declared.Word.{Word}
@@ -49,6 +49,32 @@ pub kind_answered : (field : Bytes) {r : Option Kind} → r ≡ kind_named field
 unfolding kind_named
 kind_answered field e =
     record { answer = e; refusal = ap refusal_of e ∙ kind_refusal (is "A" field) (is "F" field) (is "N" field) (is "M" field) (is "C" field) }
+
+-- ---- words of an F line
+
+word_refusal : (b a n c o i : Bool)
+    → refusal_of (
+    cond b (Some Word.Bot) (
+    cond a (Some Word.Atom) (
+    cond n (Some Word.Not) (cond c (Some Word.And) (cond o (Some Word.Or) (cond i (Some Word.Imp) None))))))
+    ≡ bad_unless (b || a || n || c || o || i)
+word_refusal true a n c o i = refl
+word_refusal false true n c o i = refl
+word_refusal false false true c o i = refl
+word_refusal false false false true o i = refl
+word_refusal false false false false true i = refl
+word_refusal false false false false false true = refl
+word_refusal false false false false false false = refl
+
+pub word_answered : (field : Bytes) {r : Option Word} → r ≡ formula_word field → WordRead field r
+unfolding formula_word
+word_answered field e =
+    record {
+      answer = e;
+      refusal =
+          ap refusal_of e
+          ∙ word_refusal (is "bot" field) (is "atom" field) (is "not" field) (is "and" field) (is "or" field) (is "imp" field);
+    }
 
 -- ---- keys
 

@@ -3,7 +3,7 @@ use Rattle.std.specs.Prelude.{ℕ, ◌+◌, ◌*◌, ◌≡◌, Bool, true, cond
 use Rattle.std.proofs.Math.Option as Math
 use Rattle.elk.specs.Rules.{Rule, code_of}
 use Rattle.format.specs.Text.{Bytes, is, all, same_list}
-use Rattle.parts.specs.Refusals.{bad_unless, refusal_of}
+use Rattle.parts.specs.Refusals.{bad_unless, bad_if_none, refusal_of}
 use Rattle.keywords.specs.declared.Kind.{Kind}
 use Rattle.keywords.specs.declared.Kind.TheVariants.{Atom, Formula, Row, Model, Claim}
 use Rattle.keywords.specs.declared.Word.{Word}
@@ -40,10 +40,21 @@ formula_word field =
     cond (is "and" field) (Some Word.And) (
     cond (is "or" field) (Some Word.Or) (cond (is "imp" field) (Some Word.Imp) None)))))
 
+abbrev pub is_formula_word : Bytes → Bool
+is_formula_word field = is "bot" field || is "atom" field || is "not" field || is "and" field || is "or" field || is "imp" field
+
+pub record WordRead (field : Bytes) (r : Option Word) : Type 0 where
+  pub answer : r ≡ formula_word field
+  pub refusal : refusal_of r ≡ bad_unless (is_formula_word field)
+
 -- the code of a rule
 abbrev pub rule_code : Math.Option Rule → Option ℕ
 rule_code Math.none = None
 rule_code (Math.some r) = Some (code_of r)
+
+pub record RuleRead (rule : Math.Option Rule) (r : Option ℕ) : Type 0 where
+  pub answer : r ≡ rule_code rule
+  pub refusal : refusal_of r ≡ bad_if_none rule
 
 -- ---- keys
 

@@ -4,7 +4,7 @@
 ghost use Rattle.std.specs.Prelude.{◌≡◌, get_or};
 ghost use Rattle.format.specs.Text.{same_list};
 ghost use Rattle.format.specs.Line.{rule_of};
-ghost use Rattle.keywords.specs.Words.{KindRead, word_code, formula_word, rule_code, IsKey};
+ghost use Rattle.keywords.specs.Words.{KindRead, word_code, WordRead, RuleRead, IsKey};
 ghost use Rattle.keywords.specs.RuleWords.{CodesPlaced, Candidate, WordsStand, word_at};
 
 use tables::names::same_bytes;
@@ -88,7 +88,7 @@ impl From<Word> for u16 {
 
 // The word of an F line; None for any other.
 pub fn formula_word(field: &[u8]) -> Option<Word>
-    ensures { result ≡ formula_word field.now }
+    ensures { WordRead field.now result }
 {
     match pack(field) {
         BOT => Some(Word::Bot),
@@ -146,7 +146,7 @@ fn is_word(words: &[u8], starts: &[u8], code: u8, field: &[u8]) -> bool
 // where each starts. In `codes` each rule's code stands at the place of its word; at the other places any code will do, and zeros would take
 // more memory.
 pub fn rule_word(field: &[u8]) -> Option<u16>
-    ensures { result ≡ rule_code (rule_of field.now) }
+    ensures { RuleRead (rule_of field.now) result }
 {
     let codes = b"\
         \x0d\x01\x0b\x03\x12\x13\x15\x16\x22\x09\x21\x17\x18\x19\x01\x0f\

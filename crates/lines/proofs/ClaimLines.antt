@@ -1,13 +1,13 @@
 -- C lines: the tests of a claim as it was read and of the model beside it, and the file with its claim.
 use Prim.Native.Nat.{ℕ, ◌≤◌, ◌<◌}
 use native.Mathlib.Omega.{arith}
-use mathlib.Core.Path.{◌≡◌, refl, sym, ap, ap₂, subst₂, ◌∙◌}
+use mathlib.Core.Path.{◌≡◌, refl, sym, ap, ap₂, subst, subst₂, ◌∙◌}
 use mathlib.Core.Bool.{Bool, true, false, cond, not, ◌||◌}
 use mathlib.Core.List.{List, [], ◌∷◌, ◌++◌}
 use mathlib.Core.Option.{Option, none, some}
 use lib.Dec.{eqb}
 use lib.ListN.{length, get_or, take}
-use borrow.Author.Tests.{eqb-false}
+use borrow.Author.Tests.{eqb-true, eqb-false}
 use Rattle.format.specs.Text.{Bytes, fields_of, side_of, strictly_rising}
 use Rattle.format.specs.File.{Row, Model, Claim, claimed, File, atoms_given}
 use Rattle.format.specs.Line.{line_of}
@@ -29,7 +29,7 @@ use Rattle.early.specs.Early.{past_of, bad_of, numbered}
 use Rattle.rows.proofs.EarlyTests.{past_listed, bad_listed, short_side}
 use Rattle.rows.proofs.Numbering.{first_append, numbered_some}
 use Rattle.models.specs.Models.{Given, ModelNumbered}
-use Rattle.state.specs.State.{Stepped, refused_by, claimed_by, report_of, model_report, ModelHeld, Memory, Stored}
+use Rattle.state.specs.State.{Stepped, refused_by, claimed_by, line_held, model_report, ModelHeld, Memory, Stored}
 use Rattle.state.specs.Lined.{OfKind}
 use Rattle.lines.specs.ClaimLines.{claim_of, model_before, with_tables, ClaimSettled, ClaimLined}
 use Rattle.state.specs.declared.State.{State}
@@ -152,11 +152,9 @@ held_given none (Some m) x = absurd x
 held_given (some m) None x = absurd x
 held_given (some m) (Some l) x = (refl, x.0)
 
-held_reported : (o : Option Model) (h : Answer ModelLine) → ModelHeld o h → (line : ℕ) → report_of h line ≡ reported_on o line
-held_reported none None x line = refl
-held_reported none (Some m) x line = absurd x
-held_reported (some m) None x line = absurd x
-held_reported (some m) (Some l) x line = x.1
+held_reported : (m : Model) (h : Answer ModelLine) → ModelHeld (some m) h → (line : ℕ) → line_held h ≡ reported_on (some m) line
+held_reported m None x line = absurd x
+held_reported m (Some l) x line = x.1
 
 module _ {text : Bytes} {f : File} {s : State} {t : Memory} (stored : Stored text f s t) {done : List Bytes} (good : Good done f) where
   -- whether the last line was an M line, as the code asks it
@@ -167,7 +165,10 @@ module _ {text : Bytes} {f : File} {s : State} {t : Memory} (stored : Stored tex
     turn : rank f.stage < 4
     turn = follows_once f.stage claimed (omega arith) (booleans.not_false _ (passes 4 (claim_tests f xs ys) through))
 
-    -- where it was not there is no model
+    -- where it was there is a model, and else there is none
+    with_model_lem : given ≡ true → (m : Model) × (f.model ≡ some m)
+    with_model_lem e = good.model_made (sym stored.stage ∙ eqb-true s.stage 3 e)
+
     without_model : given ≡ false → f.model ≡ none
     without_model e = good.no_model (omega (arith, turn, stored.stage, eqb-false s.stage 3 e))
 
@@ -184,8 +185,11 @@ module _ {text : Bytes} {f : File} {s : State} {t : Memory} (stored : Stored tex
     reported : (line : ℕ) → model_report s line ≡ reported_on f.model line
     reported line = by given refl
       where
-        by : (b : Bool) → given ≡ b → cond b (report_of s.model line) line ≡ reported_on f.model line
-        by true e = held_reported f.model s.model stored.model line
+        by : (b : Bool) → given ≡ b → cond b (line_held s.model) line ≡ reported_on f.model line
+        by true e =
+            let made = with_model_lem e in
+            subst (λ (o : Option Model). ModelHeld o s.model → line_held s.model ≡ reported_on o line) (sym made.1)
+            (λ held. held_reported made.0 s.model held line) stored.model
         by false e = rw (without_model e) refl
 
     -- the number that was asked of the model is the first of 15, 16 and 17 that applies

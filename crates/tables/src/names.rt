@@ -6,7 +6,7 @@ ghost use Rattle.tables.specs.Names.{first_records, spelled, NameFound};
 
 use counts::limits::NAME_WIDTH;
 
-// Whether two byte strings are equal: pair by pair, with no call such as `bcmp`, which the archives for C would need from outside.
+// Whether two byte strings are equal: names, and the words of rules in `keywords`.
 pub fn same_bytes(a: &[u8], b: &[u8]) -> bool
     ensures { result ≡ same_list a.now b.now }
 {
