@@ -46,9 +46,11 @@ impl<'a> Writer<'a> {
             self.end = None;
             return;
         }
-        let end = at + words.len();
-        out[at..end].copy_from_slice(words);
-        self.end = Some(end);
+        // Not `copy_from_slice`: words are short, and an archive for C would need `memmove` from outside.
+        for i in 0..words.len() {
+            out[at + i] = words[i];
+        }
+        self.end = Some(at + words.len());
     }
 
     pub fn put_byte(&mut self, byte: u8)
