@@ -1,7 +1,8 @@
 -- What the answer after the complete lines says of the text: it is accepted, and the tables hold its file, or it is refused.
 use Prim.Native.Nat.{ℕ, suc, ◌+◌, ◌≤◌, ◌<◌}
 use Rattle.std.specs.Prelude
-use Rattle.std.specs.Prelude.{Result, Ok, Err, MatchResult}
+use Rattle.std.specs.Prelude.{unwrap_or, Result, Ok, Err, IsErrAnd, MatchResult}
+use Rattle.std.proofs.lemmas.Result.{err_from_is_err_and}
 use native.Mathlib.Omega.{arith}
 use mathlib.Core.Path.{◌≡◌, refl, sym, ap, subst, ◌∙◌}
 use mathlib.Core.Bool.{Bool, true, false}
@@ -24,12 +25,24 @@ use Rattle.state.specs.declared.State.{State}
 use Rattle.run.specs.Running.{place, Running, Passes, Stops, Runs}
 use Rattle.run.specs.declared.Ran.{Ran}
 use Rattle.run.specs.declared.Stopped.{Stopped}
-use Rattle.answers.specs.Answers.{claimed_or_none, answer_by, finished, state_of, Accepts, Refuses}
+use Rattle.answers.specs.Answers.{answer_by, finished, Finishes, state_of, Accepts, Refuses}
 use Rattle.answers.specs.declared.Accepted.{Accepted}
 
 -- what the answer after the run says
 abbrev pub Ends : Bytes → State → Memory → Result Accepted Refused → Type 0
 Ends text s t r = MatchResult r (λ a. Accepts text s a t) (Refuses text)
+
+-- what the run over the lines was stopped by, and a refusal of the end, stay what they are
+pub finished_by : (len : ℕ) (r : Result Ran Stopped) (end : Result Accepted Refused)
+    → Finishes (λ (s : Stopped) (e : Refused). e ≡ s.refused) (λ (a e : Refused). e ≡ a) len r end → end ≡ finished len r
+unfolding finished
+finished_by len (Err s) end f = let given = err_from_is_err_and end f in given.1 ∙ ap (λ (e : Refused). Err e) given.2
+finished_by len (Ok ran) end f = by (answer_by (ltb ran.at len) (eqb ran.state.stage (rank claimed)) ran) f
+  where
+    by : (a : Result Accepted Refused) → MatchResult a (λ (x : Accepted). end ≡ Ok x) (λ (e : Refused). IsErrAnd end (λ (given : Refused). given ≡ e))
+        → end ≡ a
+    by (Ok x) g = g
+    by (Err e) g = let given = err_from_is_err_and end g in given.1 ∙ ap (λ (x : Refused). Err x) given.2
 
 module _ (text : Bytes) (t : Memory) where
   -- a line was refused
@@ -76,11 +89,12 @@ module _ (text : Bytes) (t : Memory) where
           below_five claimed = omega arith
 
       -- the claim was made, and the file is stored
-      ends_claimed : ran.state.stage ≡ rank claimed → Ends text ran.state t (claimed_or_none ran.state.claim ran)
+      ends_claimed : ran.state.stage ≡ rank claimed → Ends text ran.state t (answer_by false true ran)
       ends_claimed e =
           let stored = at_end.stored in
           let made = at_end.good.claim_made (omega (arith, e, stored.stage)) in
-          subst (λ (o : Prelude.Option ℕ). Ends text ran.state t (claimed_or_none o ran)) (sym (stored.claim ∙ ap claim_line made.1))
+          subst (λ (o : Prelude.Option ℕ). Ends text ran.state t (Ok (record { line = unwrap_or o 0; counts = ran.state.counts })))
+          (sym (stored.claim ∙ ap claim_line made.1))
           (record {
             line = whole ∙ ap (λ (o : Option Claim). or_no_claim o ran.line) made.1;
             file = at_end.file;

@@ -1,5 +1,4 @@
 -- The answer after the run over a text's complete lines, and what an answer says of the text.
-use Rattle.std.specs.Prelude
 use Rattle.std.specs.Prelude.{ℕ, ◌≡◌, Bool, true, false, List, eqb, ltb, unwrap_or, Result, Ok, Err, IsErrAnd, MatchResult}
 use Rattle.format.specs.Text.{Bytes}
 use Rattle.format.specs.File.{File, no_file, claimed}

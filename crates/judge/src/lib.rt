@@ -49,7 +49,7 @@ fn run_or_clear(text: &[u8], lent: &mut Tables) -> Judged
 {
     let mut notes = [0u64; LEAST_NOTES];
     let ran = run(text, lent, &mut notes);
-    let end = finish(text, ran);
+    let end: Result<Accepted, Refused> = finish(text, ran);
     if end.is_err() {
         lent.clear();
     }

@@ -1,6 +1,7 @@
 -- `judge::run_or_clear` meets its contract: the tables stay where the run accepts, and are clear where it refuses.
 use mathlib.Core.Path.{refl, sym, ap, ◌∙◌}
 use Rattle.run.specs.Lent.{held, lengths}
+use Rattle.answers.proofs.Ends.{finished_by}
 use Rattle.run.specs.declared.lent.Tables.{Tables}
 use Rattle.judge.proofs.Whole.{clear_lengths, kept_lengths, fresh_tables, judges_kept, judges_again_clear}
 use Rattle.judge.proofs.run_or_clear.Goals as goal
@@ -19,9 +20,9 @@ returns-clause-judges c =
     let fresh = fresh_tables _ c.requires.0 c.requires.1 refl in
     elim c.if-is_err.branch [
       | then-is_err w ↦
-          judges_again_clear c.requires.0 fresh c.run-ran.ensures.over c.finish-end.ensures c.from.ensures
+          judges_again_clear c.requires.0 fresh c.run-ran.ensures.over (finished_by _ _ _ c.finish-end.ensures) c.from.ensures
           (sym c.is_err.ensures.value ∙ w.if-is_err.true) (ap held w.lent-is ∙ w.clear.ensures.cleared)
       | else-is_err w ↦
-          judges_kept c.requires.0 fresh c.run-ran.ensures.over c.finish-end.ensures c.from.ensures
+          judges_kept c.requires.0 fresh c.run-ran.ensures.over (finished_by _ _ _ c.finish-end.ensures) c.from.ensures
           (sym c.is_err.ensures.value ∙ w.if-is_err.false) (ap held w.lent-is)
     ]

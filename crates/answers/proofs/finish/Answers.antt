@@ -1,1 +1,0 @@
-use Rattle.answers.proofs.finish.Goals as goal
