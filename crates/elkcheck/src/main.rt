@@ -13,6 +13,7 @@ use answers::Answer;
 use counts::limits::{LEAST_FORMULAS, LEAST_NAMES, LEAST_ROWS, MOST_ENTRIES};
 use govelamuth::elk_check;
 use opening::open;
+use parts::find;
 use run::lent::Tables;
 use std::env::Env;
 use std::io;
@@ -101,10 +102,11 @@ fn read_command(env: &impl Env) -> Command {
     }
 }
 
-// Prints a lent text up to the zeros after what it holds.
+// Prints a lent text up to the zeros after what it holds. By `find`, which looks at sixteen bytes at once: `position`
+// looks at one after the other, which takes up to a tenth of a run with many words.
 fn print_held(rt: &impl Print, held: &[u8]) -> io::Result<()> {
-    let end = held.iter().position(|&byte| byte == 0);
-    io::writer(rt).write_all(&held[..end.unwrap_or(held.len())])
+    let end = find(held, 0, 0);
+    io::writer(rt).write_all(&held[..end])
 }
 
 // The most bytes of sentences that are printed: 1 MiB.
