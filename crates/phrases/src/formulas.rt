@@ -27,26 +27,27 @@ fn word_before(n: NodeRecord, i: usize) -> u16
     }
 }
 
-// The bracket before a formula of two parts, with the word before the first part.
+// The bracket before a formula of two parts, with the word before the first part. Each arm puts its own words, so that their length is
+// known where they are put.
 #[tactic(auto, using(std::proofs::lemmas::Bool::Decides::nat_tests), unfolding(crate::specs::Formulas::bracket_of))]
-fn bracket(word: u16) -> &'static [u8]
-    ensures { result.now ≡ bracket_of word }
+fn put_bracket(word: u16, out: &mut Writer)
+    ensures { Puts (bracket_of word) out.old out.new }
 {
     match word {
-        IMP => b"(if ",
-        _ => b"(",
+        IMP => out.put(b"(if "),
+        _ => out.put(b"("),
     }
 }
 
-// The word between its parts.
+// The word between its parts, in the same way.
 #[tactic(auto, using(std::proofs::lemmas::Bool::Decides::nat_tests), unfolding(crate::specs::Formulas::connective_of))]
-fn connective(word: u16) -> &'static [u8]
-    ensures { result.now ≡ connective_of word }
+fn put_connective(word: u16, out: &mut Writer)
+    ensures { Puts (connective_of word) out.old out.new }
 {
     match word {
-        AND => b" and ",
-        OR => b" or ",
-        _ => b" then ",
+        AND => out.put(b" and "),
+        OR => out.put(b" or "),
+        _ => out.put(b" then "),
     }
 }
 
@@ -76,9 +77,9 @@ impl<'a> Sheet<'a> {
                 self.put_formula(first, out);
             }
             word => {
-                out.put(bracket(word));
+                put_bracket(word, out);
                 self.put_formula(first, out);
-                out.put(connective(word));
+                put_connective(word, out);
                 self.put_formula(usize::from(n.second), out);
                 out.put(b")");
             }

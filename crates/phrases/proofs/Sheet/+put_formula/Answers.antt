@@ -1,7 +1,7 @@
 -- `phrases::Sheet::put_formula` meets its contract. Assumes nothing.
 use Prim.Native.Nat.{ℕ, ◌<◌}
 use native.Mathlib.Omega.{arith}
-use mathlib.Core.Path.{◌≡◌, sym}
+use mathlib.Core.Path.{◌≡◌}
 use Rattle.phrases.proofs.TableFormulas.{first_before, second_before, parts_of_lem, falsum_words, atom_words_lem, not_words, two_words}
 use Rattle.writer.proofs.Writing.{puts_as, puts_then}
 use Rattle.phrases.proofs.Sheet.+put_formula.Goals as goal
@@ -51,6 +51,5 @@ returns-in_default t c =
     let self = c.args.self in
     puts_as (two_words self.text.now self.names.now self.formulas.now c.args.i _ c.node-n.ensures _
     c.word_before.ensures (omega arith) _ _ c.from-first.ensures c.from.ensures)
-    (puts_then (puts_as (sym c.bracket.ensures) c.put-in_default.ensures) (puts_then c.put_formula-in_default.ensures
-    (puts_then (puts_as (sym c.connective.ensures) c.put-in_default-2.ensures)
-    (puts_then c.put_formula-in_default-2.ensures c.put-in_default-3.ensures))))
+    (puts_then c.put_bracket.ensures (puts_then c.put_formula-in_default.ensures
+    (puts_then c.put_connective.ensures (puts_then c.put_formula-in_default-2.ensures c.put-in_default.ensures))))
